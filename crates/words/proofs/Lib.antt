@@ -1,0 +1,17 @@
+pub mod Bits
+pub mod Calls
+pub mod Canonical
+pub mod Cases
+pub mod Forms
+pub mod Gather
+pub mod Group
+pub mod Groups
+pub mod Ones
+pub mod Round
+pub mod RowsBack
+pub mod Runs
+pub mod Sets
+pub mod Size
+pub mod Table
+pub mod Tail
+pub mod Writing

@@ -1,0 +1,2 @@
+-- What a word is read as, which the proofs of several modules use.
+pub mod Reading

@@ -1,0 +1,6 @@
+pub mod Rows
+pub mod Words
+pub mod Writer
+pub mod Check
+pub mod Calls
+pub mod Cases

@@ -1,0 +1,79 @@
+// Pack: rows to their canonical list, one group after the other.
+ghost use mathlib.Core.Path.{_≡_};
+ghost use mathlib.Core.Bool.{true};
+ghost use mathlib.Core.List.{_++_};
+ghost use Prim.Native.Nat.{min, _≤_};
+ghost use lib.ListN.{length, drop};
+ghost use Rattle.answers.specs.Outcome.{Gives};
+ghost use Rattle.words.specs.Rows.{rowLimit, areBits};
+ghost use Rattle.words.specs.Words.{packed};
+ghost use Rattle.words.specs.Calls.{packOutcome};
+use crate::rows::GROUP_LIMIT;
+use crate::rows::ROW_LIMIT;
+use crate::rows::all_bits;
+use crate::rows::group_of;
+use crate::rows::groups_for;
+use crate::writer::Pending;
+use crate::writer::copy;
+use crate::writer::finish;
+use crate::writer::next_step;
+use crate::writer::store;
+use answers::Answer;
+use answers::Refusal;
+
+fn smaller(x: usize, y: usize) -> usize
+    ensures { λ r. ⌜ r ≡ min x y ⌝ }
+{
+    if x < y { x } else { y }
+}
+
+// Writes the list of some rows to a place that is long enough; answers its length.
+fn pack_into(rows: &[u8], out: &mut [u32]) -> usize
+    requires { ⌜ (areBits (now rows) ≡ true) × (length (now rows) ≤ rowLimit) × (length (packed (now rows)) ≤ length (now out)) ⌝ }
+    ensures { λ r. ⌜ (r ≡ length (packed (now (rows .entry)))) × (now (out .exit) ≡ packed (now (rows .entry)) ++ drop r (now (out .entry))) ⌝ }
+{
+    let mut pending = Pending { bit: 0, count: 0 };
+    let mut written: usize = 0;
+    let mut at: usize = 0;
+    while at < rows.len() {
+        let end = smaller(at + 31, rows.len());
+        let group = group_of(&rows[at..end]);
+        let step = next_step(pending, group, 1);
+        written = store(out, written, step);
+        pending = step.pending;
+        at = end;
+    }
+    finish(out, written, pending)
+}
+
+// As `pack` of rows that are in order, where the output may be too short for their list: the list is
+// made aside, and the output is touched only if the list fits.
+fn pack_aside(rows: &[u8], out: &mut [u32]) -> Answer
+    requires { ⌜ (areBits (now rows) ≡ true) × (length (now rows) ≤ rowLimit) ⌝ }
+    ensures { λ r. ⌜ Gives (packOutcome (now (rows .entry)) (now (out .entry))) r (now (out .exit)) ⌝ }
+{
+    let mut list = [0u32; GROUP_LIMIT];
+    let length = pack_into(rows, &mut list);
+    if out.len() < length {
+        return Answer::Refused(Refusal::OutSmall);
+    }
+    copy(&list[..length], out);
+    Answer::Done(length)
+}
+
+// Writes the canonical list of some rows, a byte 0 or 1 each.
+pub fn pack(rows: &[u8], out: &mut [u32]) -> Answer
+    ensures { λ r. ⌜ Gives (packOutcome (now (rows .entry)) (now (out .entry))) r (now (out .exit)) ⌝ }
+{
+    if !all_bits(rows) {
+        return Answer::Refused(Refusal::BadValue);
+    }
+    if ROW_LIMIT < rows.len() {
+        return Answer::Refused(Refusal::Full);
+    }
+    if out.len() < groups_for(rows.len()) {
+        return pack_aside(rows, out);
+    }
+    let length = pack_into(rows, out);
+    Answer::Done(length)
+}

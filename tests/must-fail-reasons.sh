@@ -1,0 +1,25 @@
+#!/usr/bin/env bash
+# Each must-fail edit is refused because a fact no longer holds: not because it does not parse, and not because
+# the proof file no longer fits the code's shape ("has no `Need-..`"). Reads what `rt ci` left in target/.
+set -u
+cd "$(dirname "$0")/.." || exit 2
+bad=0
+edits=0
+for edit in crates/*/must-fail/*.edit; do
+    [ -e "$edit" ] || continue
+    edits=$((edits + 1))
+    crate=$(basename "$(dirname "$(dirname "$edit")")")
+    log=target/must-fail/$crate/$(basename "$edit" .edit)/.log
+    if [ ! -f "$log" ]; then
+        echo "$edit: was not tried ($log is missing)"
+        bad=1
+        continue
+    fi
+    first=$(grep -m 1 -E 'error(\[[a-z-]+\])?:|no proof:|it is not proved' "$log")
+    case $first in
+    '') echo "$edit: its log shows no error"; bad=1 ;;
+    *'has no `Need-'* | *'error['*) echo "$edit: refused for its shape: ${first:0:200}"; bad=1 ;;
+    esac
+done
+echo "$edits must-fail edits read"
+[ "$edits" -gt 0 ] && [ "$bad" -eq 0 ]
