@@ -6,7 +6,7 @@ use Prim.Native.Nat.{ℕ, zero, suc, max, _+_, _<_, _≤_}
 use native.Mathlib.Omega.{arith}
 use native.Mathlib.Numerals.{add-one}
 use lib.Dec.{ltb}
-use lib.ListN.{length, getD, take, drop, take-append-drop, drop-of-length-le}
+use lib.ListN.{length, getD, take, drop, set, take-append-drop, drop-of-length-le}
 use lib.Seq.{drop-cons}
 use borrow.Author.Tests.{lt-ltb, le-ltb, ltb-true, ltb-false}
 use Rattle.words.specs.Rows.{areBits}
@@ -41,6 +41,11 @@ module _ (n : ℕ) (rows : List ℕ) (bits : areBits rows ≡ true) where
 
   pub areBits-drop : areBits (drop n rows) ≡ true
   areBits-drop = and-eq-true-iff (areBits (take n rows)) (areBits (drop n rows)) .0 parts .1
+
+pub areBits-set : (rows : List ℕ) (i bit : ℕ) → areBits rows ≡ true → bit < 2 → areBits (set rows i bit) ≡ true
+areBits-set [] i bit bits h = refl
+areBits-set (row ∷ rows) zero bit bits h = rw (lt-ltb bit 2 h) (other-bits row rows bits)
+areBits-set (row ∷ rows) (suc i) bit bits h = rw (lt-ltb row 2 (first-bit row rows bits)) (areBits-set rows i bit (other-bits row rows bits) h)
 
 -- two numbers are bits exactly where the larger one is
 both-bits : (x y : ℕ) (rest : Bool) → ltb x 2 && (ltb y 2 && rest) ≡ ltb (max x y) 2 && rest

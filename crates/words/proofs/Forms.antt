@@ -3,6 +3,7 @@ use mathlib.Core.Path.{_≡_, refl, _∙_, ap, sym}
 use mathlib.Core.Bool.{true, not, _&&_, and-assoc, and-true, and-eq-true-iff}
 use mathlib.Core.List.{List, [], _∷_, _++_, map, map-append, append-assoc, append-nil}
 use Prim.Native.Nat.{ℕ, _+_, _<_, _≤_}
+use native.Mathlib.Omega.{arith}
 use native.Mathlib.Numerals.{add-one}
 use lib.Dec.{eqb, ltb}
 use lib.ListN.{length, getD, take, drop, replicate, length-append, length-replicate, take-append-drop, drop-of-length-le}
@@ -22,6 +23,11 @@ pub keeps-fill : (before bit count : ℕ) → keepsForm before (fill bit count) 
 keeps-fill before bit count e =
     let s = and-eq-true-iff (not (eqb before bit)) (ltb 0 count) .0 e in
     (eqb-false before bit (not-true (eqb before bit) (s .0)), ltb-true 0 count (s .1))
+
+-- a run that keeps the form covers a group
+pub keeps-covers : (before : ℕ) (run : Run) → keepsForm before run ≡ true → 0 < span run
+keeps-covers before (literal group) e = omega arith
+keeps-covers before (fill bit count) e = keeps-fill before bit count e .1
 
 pub keeps-first : (before : ℕ) (run : Run) (runs : List Run)
     → wellFormed before (run ∷ runs) ≡ true → (keepsForm before run ≡ true) × (wellFormed (bitAfter run) runs ≡ true)

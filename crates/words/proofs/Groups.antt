@@ -6,7 +6,7 @@ use Prim.Native.Nat.{ℕ, zero, suc, min, _+_, _*_, _-_, _/_, _%_, _<_, _≤_}
 use native.Mathlib.Omega.{arith}
 use native.Mathlib.Nat.{zero-div}
 use lib.Dec.{ltb, leb}
-use lib.ListN.{length, getD, take, drop, replicate, length-append, length-drop, drop-of-length-le, replicate-append-replicate, List·getD-append}
+use lib.ListN.{length, getD, take, drop, replicate, length-append, length-drop, drop-of-length-le, replicate-append-replicate, List·getD-append, List·getD-eq-default}
 use lib.Seq.{drop-drop, getD-append-add}
 use borrow.Author.Tests.{ltb-true, ltb-false, leb-true, leb-false}
 use Rattle.words.specs.Rows.{areBits, groupsFor, groupOf, cut, groupsOf, bitsOf, rowsOf, rowAt}
@@ -105,6 +105,10 @@ getD-rowsOf (group ∷ groups) row = go (ltb row 31) refl (getD-rowsOf groups (r
         ∙ getD-append-add (bitsOf 31 group) (rowsOf groups) (row - 31) 0
         ∙ later
         ∙ rw (next, place) refl
+
+-- no row past the last is 1
+pub rowAt-past : (groups : List ℕ) (row : ℕ) → 31 * length groups ≤ row → rowAt groups row ≡ 0
+rowAt-past groups row h = rw (List·getD-eq-default groups 0 {n = row / 31} (omega arith), zero-div) refl
 
 -- ---- groups of one bit
 

@@ -5,7 +5,7 @@ use Prim.Native.Nat.{ℕ, zero, suc, _+_, _*_, _/_, _%_, _^_, _<_, _≤_}
 use native.Mathlib.Omega.{arith}
 use native.Mathlib.Nat.{add-comm, zero-mul, suc-mul, mod-lt, mod-one, mod-eq-of-lt}
 use lib.Count.{ones, ones-cat, ones-ones}
-use lib.ListN.{replicate}
+use lib.ListN.{length, getD, replicate, set}
 use lib.Pow.{pow-pos}
 use Rattle.words.specs.Rows.{onesIn, bitsOf, rowsOf}
 use Rattle.words.specs.Words.{allOnes}
@@ -14,6 +14,12 @@ use Rattle.words.proofs.Group.{bit-above}
 pub onesIn-append : (front back : List ℕ) → onesIn (front ++ back) ≡ onesIn front + onesIn back
 onesIn-append [] back = omega arith
 onesIn-append (row ∷ front) back = omega (arith, onesIn-append front back)
+
+-- one row set
+pub onesIn-set : (rows : List ℕ) (i bit : ℕ) → i < length rows → onesIn (set rows i bit) + getD rows i 0 ≡ onesIn rows + bit
+onesIn-set [] i bit h = absurd (omega arith)
+onesIn-set (row ∷ rows) zero bit h = omega arith
+onesIn-set (row ∷ rows) (suc i) bit h = omega (arith, onesIn-set rows i bit (omega arith))
 
 ones-bit : (bit : ℕ) → bit < 2 → ones bit ≡ bit
 ones-bit zero h = ones-ones 0

@@ -6,8 +6,8 @@ use Prim.Native.Nat.{ℕ, _+_, _*_, _-_, _/_, _%_, _^_, _<_, _≤_}
 use native.Mathlib.Omega.{arith}
 use native.Mathlib.Nat.{mod-eq-of-lt}
 use lib.Dec.{ltb}
-use lib.ListN.{length, getD, take, drop, List·getD-eq-default}
-use lib.Seq.{length-take-le, getD-take, getD-drop, ext-getD}
+use lib.ListN.{length, getD, take, drop, drop-of-length-le, List·getD-eq-default}
+use lib.Seq.{length-take-le, take-all, getD-take, getD-drop, ext-getD}
 use borrow.Author.Tests.{ltb-true, ltb-false}
 use Rattle.words.specs.Rows.{areBits, groupsFor, groupOf, groupsOf, bitsOf, rowsOf, rowAt, clearFrom}
 use Rattle.words.proofs.Bits.{areBits-take, areBits-drop}
@@ -87,3 +87,11 @@ groups-back count groups h e clear = same-groups (groupsOf rows) groups (groupsO
         go false l =
             let past : count ≤ row = ltb-false row count l in
             List·getD-eq-default rows 0 (omega (arith, full)) ∙ sym (clearFrom-rowAt count groups clear row past)
+
+-- groups are the groups of all their rows
+pub groups-whole : (groups : List ℕ) → ((i : ℕ) → getD groups i 0 < 0x80000000) → groupsOf (rowsOf groups) ≡ groups
+unfolding clearFrom
+groups-whole groups h =
+    let all : length (rowsOf groups) ≤ 31 * length groups = omega (arith, length-rowsOf groups) in
+    ap groupsOf (sym (take-all (31 * length groups) (rowsOf groups) all))
+    ∙ groups-back (31 * length groups) groups h (omega arith) (rw (drop-of-length-le (rowsOf groups) all) refl)

@@ -3,13 +3,12 @@ use mathlib.Core.Path.{_≡_, refl, _∙_, ap, sym}
 use mathlib.Core.List.{List, [], _∷_}
 use Prim.Native.Nat.{ℕ, suc, zero, _+_, _*_, _≤_}
 use native.Mathlib.Omega.{arith}
-use lib.ListN.{length, take, drop, length-map, take-append-drop, drop-of-length-le}
-use lib.Seq.{take-all}
-use Rattle.words.specs.Rows.{onesIn, groupOf, cut, groupsFor, groupsOf, rowsOf, clearFrom}
+use lib.ListN.{length, take, drop, length-map, take-append-drop}
+use Rattle.words.specs.Rows.{onesIn, groupOf, cut, groupsFor, groupsOf, rowsOf}
 use Rattle.words.specs.Words.{Run, addFill, addGroup, runsOf, encode, packed}
-use Rattle.words.proofs.Groups.{length-groupsOf, length-rowsOf}
+use Rattle.words.proofs.Groups.{length-groupsOf}
 use Rattle.words.proofs.Ones.{onesIn-append}
-use Rattle.words.proofs.RowsBack.{groups-back}
+use Rattle.words.proofs.RowsBack.{groups-whole}
 use Rattle.words.proofs.Runs.{Apart, by-fill, by-group}
 use Rattle.words.proofs.Round.{Groups}
 
@@ -91,13 +90,6 @@ unfolding packed
 packed-length rows = omega (arith, encode-length (groupsOf rows), length-groupsOf rows)
 
 -- ---- the same for groups, which are the groups of their rows
-
-groups-whole : (groups : List ℕ) → Groups groups → groupsOf (rowsOf groups) ≡ groups
-unfolding clearFrom
-groups-whole groups h =
-    let all : length (rowsOf groups) ≤ 31 * length groups = omega (arith, length-rowsOf groups) in
-    ap groupsOf (sym (take-all (31 * length groups) (rowsOf groups) all))
-    ∙ groups-back (31 * length groups) groups h (omega arith) (rw (drop-of-length-le (rowsOf groups) all) refl)
 
 -- THEOREM: a list of groups with k ones has at most 2 k + 1 words
 pub encode-ones : (groups : List ℕ) → Groups groups → length (encode groups) ≤ 2 * onesIn (rowsOf groups) + 1

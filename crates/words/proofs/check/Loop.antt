@@ -10,12 +10,12 @@ use lib.ListN.{length, take, drop, replicate}
 use lib.Seq.{take-all}
 use borrow.Author.Tests.{leb-true, leb-false}
 use Rattle.words.specs.Rows.{rowLimit, onesIn, groupsFor, bitsOf, rowsOf}
-use Rattle.words.specs.Words.{Run, Run.literal, Run.fill, runOf, span, groupIn, decode, noFill, keepsForm, bitAfter, wellFormed}
+use Rattle.words.specs.Words.{Run, runOf, span, groupIn, decode, noFill, keepsForm, bitAfter, wellFormed}
 use Rattle.words.specs.Check.{checkOf, carried, judged}
 use Rattle.words.specs.declared.check.Checking.{Checking}
 use Rattle.words.specs.declared.check.Judged.the-variants.{Fits, Breaks}
 use Rattle.words.specs.declared.check.Checked.the-variants.{Whole, Bad}
-use Rattle.words.proofs.Forms.{runAt, groupsOfRun, keeps-fill, decode-upto, length-split, length-from, length-upto, form-from, form-end}
+use Rattle.words.proofs.Forms.{runAt, groupsOfRun, keeps-covers, decode-upto, length-split, length-from, length-upto, form-from, form-end}
 use Rattle.words.proofs.Ones.{onesIn-append, onesIn-le, onesIn-replicate}
 use Rattle.words.proofs.Tail.{lastOf, last-repeated, clear-tail}
 use Rattle.words.proofs.Groups.{rowsOf-append}
@@ -38,11 +38,6 @@ fitting checking run next = go (keepsForm (checking .before) run) (leb (span run
     go true true k l e = record { keeps = k; inside = leb-true (span run) (checking .left) l; carries = cc }
     go true false k l e = let z : _≡_ {A = ℕ} 0 1 = cc in absurd (omega arith)
     go false inside k l e = let z : _≡_ {A = ℕ} 0 1 = cc in absurd (omega arith)
-
--- a run that keeps the form covers a group
-covers : (before : ℕ) (run : Run) → keepsForm before run ≡ true → 0 < span run
-covers before (literal group) e = omega arith
-covers before (fill bit count) e = keeps-fill before bit count e .1
 
 -- the ones of some groups, at most 31 each, take no more room than the groups had
 room-carried : (ones left count each : ℕ) → ones + 31 * left ≤ rowLimit → count ≤ left → each ≤ 31
@@ -89,7 +84,7 @@ module _ {list : List ℕ} {rows i : ℕ} {checking : Checking} (b : Behind list
           form = b .form ∙ form-from list i h (checking .before) ∙ rw (f .keeps) refl;
           groups = omega (arith, b .groups, length-upto list i h, f .inside);
           ones = ap (λ (ones : ℕ). ones + span run * each) (b .ones) ∙ sym (ones-upto list i h);
-          last = rw (decode-upto list i h) (sym (last-repeated (decode (take i list)) (span run) (groupIn run) (covers (checking .before) run (f .keeps))));
+          last = rw (decode-upto list i h) (sym (last-repeated (decode (take i list)) (span run) (groupIn run) (keeps-covers (checking .before) run (f .keeps))));
           room = room-carried (checking .ones) (checking .left) (span run) each (b .room) (f .inside) (onesIn-le 31 (groupIn run));
         })
 

@@ -1,0 +1,6 @@
+pub mod Combining
+pub mod Covering
+pub mod OneRow
+pub mod Operations
+pub mod TurningOver
+pub mod Walks

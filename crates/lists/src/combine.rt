@@ -1,0 +1,92 @@
+// The combination of two packed lists by spans: each step takes the shorter of the two at hand, so
+// that each word of the lists is opened once and each word of the result is written once.
+ghost use mathlib.Core.Path.{_≡_};
+ghost use mathlib.Core.List.{List, _++_};
+ghost use Prim.Native.Nat.{ℕ, min, _<_, _≤_};
+ghost use lib.ListN.{length, drop};
+ghost use Rattle.words.specs.Words.{decode, encode};
+ghost use Rattle.words.specs.Writer.{Alone};
+ghost use Rattle.lists.specs.Combine.{exclusive, combined, Filled, Covers, remaining, shorter, Opened};
+use words::word::group_in;
+use words::word::span_of;
+use words::writer::Pending;
+use words::writer::finish;
+use words::writer::next_step;
+use words::writer::store;
+
+// What is left of a list: `left` times one group, then the words from place `next` on.
+pub struct Span {
+    pub group: u32,
+    pub left: u32,
+    pub next: usize,
+}
+
+// The same groups with at least one at hand: the next word is opened where the span is used up.
+fn opened(list: &[u32], span: Span) -> Span
+    requires { ⌜ Filled (now list) × (0 < length (remaining (now list) span)) × Alone (span .group) (span .left) × (span .group < 0x80000000) ⌝ }
+    ensures { λ r. ⌜ Opened (now (list .entry)) span r ⌝ }
+{
+    if span.left != 0 {
+        return span;
+    }
+    let next = span.next;
+    let word = list[next];
+    Span {
+        group: group_in(word),
+        left: span_of(word),
+        next: next + 1,
+    }
+}
+
+// The span without its first groups.
+fn shortened(span: Span, count: u32) -> Span
+    requires { ⌜ count ≤ span .left ⌝ }
+    ensures { λ r. ⌜ r ≡ shorter span count ⌝ }
+{
+    Span {
+        group: span.group,
+        left: span.left - count,
+        next: span.next,
+    }
+}
+
+fn smaller(x: u32, y: u32) -> u32
+    ensures { λ r. ⌜ r ≡ min x y ⌝ }
+{
+    if x < y { x } else { y }
+}
+
+// Writes the canonical list of the XOR of two lists to a place that is long enough; answers its
+// length. Both lists have `groups` groups.
+pub fn xor_into(left: &[u32], right: &[u32], groups: u32, out: &mut [u32]) -> usize
+    requires { ⌜ Covers groups (now left) × Covers groups (now right) × (groups ≤ 4096)
+        × (length (encode (combined exclusive (decode (now left)) (decode (now right)))) ≤ length (now out)) ⌝ }
+    ensures { λ r. ⌜ (r ≡ length (encode (combined exclusive (decode (now (left .entry))) (decode (now (right .entry))))))
+        × (now (out .exit) ≡ encode (combined exclusive (decode (now (left .entry))) (decode (now (right .entry)))) ++ drop r (now (out .entry))) ⌝ }
+{
+    let mut from_left = Span {
+        group: 0,
+        left: 0,
+        next: 0,
+    };
+    let mut from_right = Span {
+        group: 0,
+        left: 0,
+        next: 0,
+    };
+    let mut pending = Pending { bit: 0, count: 0 };
+    let mut length: usize = 0;
+    let mut done: u32 = 0;
+    while done < groups {
+        let x = opened(left, from_left);
+        let y = opened(right, from_right);
+        let count = smaller(x.left, y.left);
+        let step = next_step(pending, x.group ^ y.group, count);
+        length = store(out, length, step);
+        pending = step.pending;
+        from_left = shortened(x, count);
+        from_right = shortened(y, count);
+        done += count;
+    }
+    finish(out, length, pending)
+}
