@@ -74,6 +74,6 @@ pub fn pack(rows: &[u8], out: &mut [u32]) -> Answer
     if out.len() < groups_for(rows.len()) {
         return pack_aside(rows, out);
     }
-    let length = pack_into(rows, out);
-    Answer::Done(length)
+    let words = pack_into(rows, out);
+    Answer::Done(words)
 }

@@ -4,8 +4,8 @@ use Prim.Native.Nat.{_-_, _≤_}
 use native.Mathlib.Omega.{arith}
 use borrow.Author.Needs.{needs}
 use lib.ListN.{length, length-set}
-use Rattle.vectors.proofs.mark.Statement.{statement}
-use Rattle.vectors.proofs.mark.Tie as tie
+use Rattle.vectors.proofs.packed.mark.Statement.{statement}
+use Rattle.vectors.proofs.packed.mark.Tie as tie
 
 abbrev Inv-loop : tie.InvT-loop
 Inv-loop column value rows₀ i₀ rows i = (i ≤ length rows₀) × (length rows ≡ length rows₀)

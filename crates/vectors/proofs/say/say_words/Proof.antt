@@ -3,8 +3,8 @@ use Prim.Native.Nat.{_-_, _≤_}
 use native.Mathlib.Omega.{arith}
 use borrow.Author.Needs.{needs}
 use lib.ListN.{length}
-use Rattle.vectors.proofs.say_words.Statement.{statement}
-use Rattle.vectors.proofs.say_words.Tie as tie
+use Rattle.vectors.proofs.say.say_words.Statement.{statement}
+use Rattle.vectors.proofs.say.say_words.Tie as tie
 
 abbrev Inv-loop : tie.InvT-loop
 Inv-loop list count i₀ t4 i = i ≤ length list

@@ -3,8 +3,8 @@ use Prim.Native.Nat.{_-_, _≤_}
 use native.Mathlib.Omega.{arith}
 use borrow.Author.Needs.{needs}
 use lib.ListN.{length}
-use Rattle.vectors.proofs.say_rows.Statement.{statement}
-use Rattle.vectors.proofs.say_rows.Tie as tie
+use Rattle.vectors.proofs.say.say_rows.Statement.{statement}
+use Rattle.vectors.proofs.say.say_rows.Tie as tie
 
 abbrev Inv-loop : tie.InvT-loop
 Inv-loop rows count i₀ i = i ≤ length rows

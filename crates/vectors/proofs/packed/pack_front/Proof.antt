@@ -2,8 +2,8 @@
 use mathlib.Core.Path.{sym}
 use lib.Seq.{length-take-le}
 use borrow.Author.Needs.{needs}
-use Rattle.vectors.proofs.pack_front.Statement.{statement}
-use Rattle.vectors.proofs.pack_front.Tie as tie
+use Rattle.vectors.proofs.packed.pack_front.Statement.{statement}
+use Rattle.vectors.proofs.packed.pack_front.Tie as tie
 
 pack-requires : tie.Need-pack-requires
 pack-requires c κs = search needs
