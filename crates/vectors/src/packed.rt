@@ -94,42 +94,73 @@ pub fn rows_of(name: &[u8], list: &[u32], length: usize) {
     say(b"\n");
 }
 
-// Document 01's limits and the order of its refusals.
-pub fn limits() {
+fn limits_of_pack() {
     lone_row(b"126976 rows:", 126976, 0, 0);
     lone_row(b"126977 rows:", 126977, 0, 0);
     lone_row(b"126977 rows, the last of them 2:", 126977, 126976, 2);
     list_of(b"a row of 1:", b"1");
     lone_row(b"a row of 2:", 1, 0, 2);
     short_output(b"row 40 of 93 to two words:");
+}
+
+fn limits_of_unpack() {
     rows_of(b"no word, no rows:", &[0; 0], 0);
     rows_of(b"126977 rows, back:", &[0x80001001], 126977);
     rows_of(b"161 rows to 160 bytes:", &[0x80000006], 161);
 }
 
-// Columns of the documents: the rows of each value.
-pub fn columns() {
+// Document 01's limits and the order of its refusals.
+pub fn limits() {
+    limits_of_pack();
+    limits_of_unpack();
+}
+
+// Document 000, figure 7.
+fn sales() {
     value_of(b"000 figure 7, 10:", b"21201021", b'0');
     value_of(b"000 figure 7, 20:", b"21201021", b'1');
     value_of(b"000 figure 7, 30:", b"21201021", b'2');
+}
+
+// Document 004, figure 1.
+fn first_attribute() {
     value_of(b"004 figure 1, attribute 1, 0:", b"010212", b'0');
     value_of(b"004 figure 1, attribute 1, 1:", b"010212", b'1');
     value_of(b"004 figure 1, attribute 1, 2:", b"010212", b'2');
+}
+
+fn second_attribute() {
     value_of(b"004 figure 1, attribute 2, 0:", b"200210", b'0');
     value_of(b"004 figure 1, attribute 2, 1:", b"200210", b'1');
     value_of(b"004 figure 1, attribute 2, 2:", b"200210", b'2');
+}
+
+// Document 002, figure 1.
+fn letters() {
     value_of(b"002 figure 1, R, A:", b"31323313", b'0');
     value_of(b"002 figure 1, R, B:", b"31323313", b'1');
     value_of(b"002 figure 1, R, H:", b"31323313", b'2');
     value_of(b"002 figure 1, R, W:", b"31323313", b'3');
+}
+
+fn ranges() {
     value_of(b"002 figure 1, X below 1:", b"12320202", b'0');
     value_of(b"002 figure 1, X from 1 to 3:", b"12320202", b'1');
     value_of(b"002 figure 1, X from 4 to 6:", b"12320202", b'2');
     value_of(b"002 figure 1, X above 6:", b"12320202", b'3');
 }
 
-// Rows of the documents, packed and unpacked.
-pub fn lists() {
+// Columns of the documents: the rows of each value.
+pub fn columns() {
+    sales();
+    first_attribute();
+    second_attribute();
+    letters();
+    ranges();
+}
+
+// Document 004, figure 2.
+fn figure_two() {
     list_of(
         b"004 figure 2:",
         b"1000000000000000000001111000000000000000000000000000000000000000000000000000000000000000000000000000000111111111111111111111111111111",
@@ -154,10 +185,19 @@ pub fn lists() {
         &[0x400003C0, 0x8000003E, 0x001FFFFF, 0x000001FF],
         133,
     );
+}
+
+fn few_rows() {
     lone_row(b"row 62073:", 126976, 62073, 1);
     lone_row(b"row 62150:", 126976, 62150, 1);
     list_of(b"no rows:", b"");
     list_of(b"30 ones:", b"111111111111111111111111111111");
     list_of(b"31 ones:", b"1111111111111111111111111111111");
     list_of(b"32 zeros:", b"00000000000000000000000000000000");
+}
+
+// Rows of the documents, packed and unpacked.
+pub fn lists() {
+    figure_two();
+    few_rows();
 }

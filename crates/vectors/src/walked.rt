@@ -23,7 +23,7 @@ fn walk_of(name: &[u8], list: &[u32], first: u32, group: u32, budget: usize) {
     say(b"\n");
 }
 
-pub fn walks() {
+fn found() {
     walk_of(
         b"004 figure 2, group 0:",
         &[0x400003C0, 0x80000002, 0x001FFFFF, 0x7FC00000],
@@ -59,6 +59,9 @@ pub fn walks() {
         3,
         3,
     );
+}
+
+fn damaged() {
     walk_of(
         b"004 figure 2, group 3 with two words:",
         &[0x400003C0, 0x80000002, 0x001FFFFF, 0x7FC00000],
@@ -96,6 +99,11 @@ pub fn walks() {
     );
 }
 
+pub fn walks() {
+    found();
+    damaged();
+}
+
 // The XOR of two lists for 31 rows; none where a list is not canonical or there is no room.
 fn xor_checked(left: &[u32], right: &[u32], out: &mut [u32]) -> usize {
     let Checked::Whole(_) = check(left, 31) else {
@@ -118,8 +126,7 @@ fn xor_of(name: &[u8], left: &[u32], right: &[u32]) {
     say(b"\n");
 }
 
-// Lists that share no row: their union is their XOR.
-pub fn combinations() {
+fn sales() {
     xor_of(
         b"000 figure 3, from 10 to 20:",
         &[0x0A000000],
@@ -131,8 +138,17 @@ pub fn combinations() {
         &[0x2E800000],
     );
     xor_of(b"000 figure 7, no value:", &[0x51000000], &[0x51000000]);
+}
+
+fn ranges() {
     xor_of(b"002 figure 1, X below 4:", &[0x05000000], &[0x40000000]);
     xor_of(b"002 figure 1, X above 3:", &[0x2A800000], &[0x10000000]);
     xor_of(b"every row:", &[0x0A000000], &[0x75FFFFFF]);
     xor_of(b"no row:", &[0xC0000001], &[0xC0000001]);
+}
+
+// Lists that share no row: their union is their XOR.
+pub fn combinations() {
+    sales();
+    ranges();
 }
