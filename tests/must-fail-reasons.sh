@@ -1,6 +1,7 @@
 #!/usr/bin/env bash
 # Each must-fail edit is refused because a fact no longer holds: not because it does not parse, and not because
-# the proof file no longer fits the code's shape ("has no `Need-..`"). Reads what `rt ci` left in target/.
+# the proof file no longer fits the code's shape (a need or a place that is not there). Reads what `rt ci` left
+# in target/.
 set -u
 cd "$(dirname "$0")/.." || exit 2
 bad=0
@@ -15,10 +16,11 @@ for edit in crates/*/must-fail/*.edit; do
         bad=1
         continue
     fi
-    first=$(grep -m 1 -E 'error(\[[a-z-]+\])?:|no proof:|it is not proved' "$log")
+    # "was not admitted" only follows from an error elsewhere.
+    first=$(grep -E 'error(\[[a-z-]+\])?:|no proof:|it is not proved' "$log" | grep -v 'was not admitted' | head -n 1)
     case $first in
     '') echo "$edit: its log shows no error"; bad=1 ;;
-    *'has no `Need-'* | *'error['*) echo "$edit: refused for its shape: ${first:0:200}"; bad=1 ;;
+    *'has no `Need-'* | *'has no field'* | *'expected type `tie.Need'* | *'not in scope'* | *'error['*) echo "$edit: refused for its shape: ${first:0:200}"; bad=1 ;;
     esac
 done
 echo "$edits must-fail edits read"

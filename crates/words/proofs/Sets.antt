@@ -34,3 +34,7 @@ module _ (list out₀ out : List ℕ) (i : ℕ) (e : out ≡ paste out₀ 0 list
 
   pub copied : i ≡ length list → out ≡ list ++ drop (length list) out₀
   copied end = e ∙ rw (end, take-length, zero-add) refl
+
+-- a list that was written in front of anything else
+pub front : (made list rest : List ℕ) (count : ℕ) → count ≡ length list → made ≡ list ++ rest → take count made ≡ list
+front made list rest count c m = rw m (take-at list rest count (sym c))

@@ -44,3 +44,17 @@ module _ (list : List ℕ) (rows : ℕ) where
       go : (t : Bool) → Whole ones ≡ cond t (Whole (onesIn (rowsOf (decode list)))) Bad → t ≡ true
       go true e = refl
       go false e = cc
+
+  -- and has as many ones as the check counts
+  pub whole-ones : (ones : ℕ) → Whole ones ≡ checkOf list rows → ones ≡ onesIn (rowsOf (decode list))
+  unfolding checkOf
+  whole-ones ones = go (canonical rows list)
+    where
+      go : (t : Bool) → Whole ones ≡ cond t (Whole (onesIn (rowsOf (decode list)))) Bad → ones ≡ onesIn (rowsOf (decode list))
+      go true e = cc
+      go false e = cc
+
+  -- THEOREM: a canonical list is found in full, with all its ones
+  pub canonical-whole : canonical rows list ≡ true → checkOf list rows ≡ Whole (onesIn (rowsOf (decode list)))
+  unfolding checkOf
+  canonical-whole e = rw e refl

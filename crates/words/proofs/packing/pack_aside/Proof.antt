@@ -4,17 +4,13 @@ use mathlib.Core.List.{List, _++_}
 use Prim.Native.Nat.{ℕ}
 use native.Mathlib.Omega.{arith}
 use lib.ListN.{length, take, drop, replicate, length-append}
-use lib.Seq.{take-at}
 use Rattle.words.specs.Words.{packed}
+use Rattle.words.proofs.Sets.{front}
 use Rattle.words.proofs.Size.{packed-length}
 use Rattle.words.proofs.packing.Exits.{small, done}
 use borrow.Author.Needs.{needs}
 use Rattle.words.proofs.packing.pack_aside.Statement.{statement}
 use Rattle.words.proofs.packing.pack_aside.Tie as tie
-
--- what was written in front of anything else
-front : (made list rest : List ℕ) (count : ℕ) → count ≡ length list → made ≡ list ++ rest → take count made ≡ list
-front made list rest count c m = rw m (take-at list rest count (sym c))
 
 slice-aggregate-pack-into : tie.Need-slice-aggregate-pack-into
 slice-aggregate-pack-into c = search needs

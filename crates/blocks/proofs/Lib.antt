@@ -1,0 +1,14 @@
+pub mod Blocks
+pub mod Columns
+pub mod EmptyUpdates
+pub mod FenceLaws
+pub mod Flipping
+pub mod Merging
+pub mod Parts
+pub mod Reaching
+pub mod Readings
+pub mod Rooms
+pub mod Sizes
+pub mod Turning
+pub mod WholeLists
+pub mod ZeroList

@@ -1,0 +1,66 @@
+-- The sizes of a value's block and of its fences, their bounds, and the places of several values one after the other. Assumes nothing.
+use mathlib.Core.Path.{_≡_}
+use mathlib.Core.Logic.{inl, inr, by-cases}
+use Prim.Native.Nat.{ℕ, zero, suc, _+_, _-_, _*_, _/_, _<_, _≤_}
+use native.Mathlib.Decide.{decLt}
+use native.Mathlib.Nat.{mul-le-mul, mul-le-mul-right, mul-suc, suc-mul, div-le-of-le-mul, le-div-iff-mul-le, div-add-mod', mod-lt}
+use native.Mathlib.Omega.{arith}
+use Rattle.blocks.specs.Shape.{Limits, blockSize, fenceCount}
+use Rattle.blocks.specs.declared.shape.Shape.{Shape}
+use Rattle.blocks.proofs.Parts.{Apart}
+
+-- ---- places of one size, one after the other
+
+-- the place of a value ends before that of the last does
+pub place-fits : (size value values : ℕ) → value < values → value * size + size ≤ values * size
+place-fits size value values h = rw (← suc-mul value size) (mul-le-mul-right size h)
+
+-- the places of two values have nothing in common
+pub places-apart : (size value other : ℕ) → (value ≡ other → ⊥) → Apart (value * size) size (other * size) size
+places-apart size value other differ =
+    by-cases (decLt value other) (λ less. inl (place-fits size value other less)) (λ more. inr (place-fits size other value (omega (arith, more, differ))))
+
+-- ---- the fences of a value
+
+-- a quotient rounded up is not more than what is divided
+rounded-few : (groups spacing : ℕ) → 1 ≤ groups → 1 ≤ spacing → (groups + (spacing - 1)) / spacing ≤ groups
+rounded-few zero spacing h some = absurd (omega arith)
+rounded-few (suc groups) spacing h some = div-le-of-le-mul spacing (omega (arith, mul-suc spacing groups, mul-le-mul-right groups some))
+
+module _ (shape : Shape) (limits : Limits shape) where
+  pub some-groups : 1 ≤ shape .groups
+  some-groups = omega (arith, limits .groupsAre, limits .someRows)
+
+  pub few-groups : shape .groups ≤ 4096
+  few-groups = omega (arith, limits .groupsAre, limits .fewRows)
+
+  pub few-fences : fenceCount shape ≤ shape .groups
+  unfolding fenceCount
+  few-fences = rounded-few (shape .groups) (shape .spacing) some-groups (limits .someSpacing)
+
+  -- each fence stands for a group that there is
+  pub fence-group : (j : ℕ) → j < fenceCount shape → j * shape .spacing < shape .groups
+  unfolding fenceCount
+  fence-group j h = omega (arith, limits .someSpacing, suc-mul j (shape .spacing), le-div-iff-mul-le (limits .someSpacing) .0 h)
+
+  -- the fence of a group: it is there, and its own group is less than G before
+  pub fence-of : (group : ℕ) → group < shape .groups → group / shape .spacing < fenceCount shape
+  unfolding fenceCount
+  fence-of group h =
+      let j = group / shape .spacing in
+      le-div-iff-mul-le (limits .someSpacing) .1 (omega (arith, limits .someSpacing, suc-mul j (shape .spacing), div-add-mod' group (shape .spacing)))
+
+  pub fence-before : (group : ℕ) → group / shape .spacing * shape .spacing ≤ group
+  fence-before group = omega (arith, div-add-mod' group (shape .spacing))
+
+  pub fence-near : (group : ℕ) → group < group / shape .spacing * shape .spacing + shape .spacing
+  fence-near group = omega (arith, div-add-mod' group (shape .spacing), mod-lt group (limits .someSpacing))
+
+  -- ---- at most 64 values
+
+  module _ (values : ℕ) (few : values ≤ 64) where
+    pub blocks-bound : values * blockSize shape ≤ 294976
+    blocks-bound = mul-le-mul {m₂ = 4609} few (omega (arith, few-groups, limits .fewThreshold))
+
+    pub fences-bound : values * fenceCount shape ≤ 262144
+    fences-bound = mul-le-mul {m₂ = 4096} few (omega (arith, few-groups, few-fences))

@@ -1,0 +1,42 @@
+-- When a merge is due, as the code finds it: by the number of U's ones, then by the row's bit in the group that is read of U. Assumes nothing.
+use mathlib.Core.Path.{_≡_, _∙_, ap, sym}
+use mathlib.Core.Bool.{true, false, and-true, and-false}
+use mathlib.Core.List.{List}
+use Prim.Native.Nat.{ℕ, _-_, _/_, _%_, _^_, _<_, _≤_}
+use native.Mathlib.Omega.{arith}
+use lib.Dec.{eqb}
+use lib.ListN.{getD}
+use borrow.Author.Tests.{le-leb, lt-leb}
+use Rattle.words.specs.Rows.{rowAt}
+use Rattle.words.specs.Words.{decode}
+use Rattle.blocks.specs.Shape.{Limits, updateRoom}
+use Rattle.blocks.specs.Block.{updateList}
+use Rattle.blocks.specs.Read.{readUpdate}
+use Rattle.blocks.specs.Whole.{updateOnes, wholeLists}
+use Rattle.blocks.specs.Change.{mergeDue}
+use Rattle.blocks.specs.declared.shape.Shape.{Shape}
+use Rattle.blocks.specs.declared.read.Reading.the-variants.{Group, Broken}
+use Rattle.blocks.proofs.Reaching.{Reaches, update-reads}
+
+module _ (shape : Shape) (row : ℕ) (block : List ℕ) where
+  -- U has fewer than T ones
+  pub none-due : updateOnes shape block < shape .threshold → false ≡ mergeDue shape row block
+  unfolding mergeDue
+  none-due few = rw (lt-leb (shape .threshold) (updateOnes shape block) few) (sym (and-false (eqb (rowAt (decode (updateList shape block)) row) 0)))
+
+  module _ (limits : Limits shape) (whole : wholeLists shape block ≡ true) (h : row < shape .rows) where
+    reaches : Reaches (readUpdate shape (row / 31) block) (getD (decode (updateList shape block)) (row / 31) 0) (updateRoom shape)
+    reaches = update-reads shape limits block whole (row / 31) (omega (arith, limits .groupsAre))
+
+    -- the group of the row is read
+    pub never-broken : readUpdate shape (row / 31) block ≡ Broken → ⊥
+    never-broken e = let same = sym (reaches .reads) ∙ e in let z : _≡_ {A = ℕ} 0 1 = cc in omega arith
+
+    -- U has T ones: the row's bit decides
+    pub bit-decides : (bits opened bit : ℕ) → shape .threshold ≤ updateOnes shape block → readUpdate shape (row / 31) block ≡ Group bits opened
+        → bit ≡ bits / 2 ^ (30 - row % 31) % 2 → eqb bit 0 ≡ mergeDue shape row block
+    unfolding mergeDue
+    bit-decides bits opened bit many e is =
+        let read = sym (reaches .reads) ∙ e in
+        let same : getD (decode (updateList shape block)) (row / 31) 0 ≡ bits = cc in
+        rw (le-leb (shape .threshold) (updateOnes shape block) many, and-true, same, is)
