@@ -15,7 +15,7 @@ use Rattle.blocks.proofs.Blocks.{ValueIs, UpdateIs, length-blockOf, val
 use Rattle.blocks.proofs.Rooms.{padded-front}
 use Rattle.blocks.proofs.WholeLists.{canonical-groups, parts-whole}
 use Rattle.blocks.proofs.ZeroList.{length-zeroList, decode-zeroList, canonical-zeroList, ones-zeroList}
-use Rattle.blocks.proofs.change.Exclusive.{xor-zeros}
+use Rattle.lists.proofs.Exclusive.{xor-zeros}
 
 -- V is the list and U is all zero
 abbrev pub emptied : Shape → List ℕ → List ℕ

@@ -2,23 +2,23 @@
 use mathlib.Core.Path.{_≡_, refl, _∙_, ap}
 use mathlib.Core.Bool.{Bool, true, false, cond}
 use mathlib.Core.List.{List}
-use Prim.Native.Nat.{ℕ, _-_, _/_, _<_, _≤_}
+use Prim.Native.Nat.{ℕ, _-_, _<_, _≤_}
 use native.Mathlib.Omega.{arith}
 use lib.ListN.{length}
 use borrow.Author.Tests.{eq-eqb, leb-false}
 use Rattle.words.specs.Rows.{rowAt}
-use Rattle.words.specs.Words.{decode}
+use Rattle.words.specs.Words.{decode, encode}
 use Rattle.lists.specs.OneRow.{turnedOver}
 use Rattle.lists.proofs.TurningOver.{rowAt-turnedOver, rowAt-turnedOver-other}
 use Rattle.blocks.specs.Shape.{Limits, updateRoom, blockSize}
-use Rattle.blocks.specs.Block.{valueLength, valueWords, valueList, updateList, current}
+use Rattle.blocks.specs.Block.{valueLength, valueWords, valueList, updateList, current, padded}
 use Rattle.blocks.specs.Whole.{updateOnes, wholeLists}
-use Rattle.blocks.specs.Change.{merged, turnedList, turned, mergeDue, flipped}
+use Rattle.blocks.specs.Change.{merged, turnedList, mergeDue, flipped}
 use Rattle.blocks.specs.declared.shape.Shape.{Shape}
-use Rattle.blocks.proofs.Blocks.{ValueIs}
+use Rattle.blocks.proofs.Blocks.{ValueIs, UpdateIs}
 use Rattle.blocks.proofs.WholeLists.{whole-parts, length-current}
-use Rattle.blocks.proofs.Merging.{length-merged, updateOnes-merged, current-merged, whole-merged}
-use Rattle.blocks.proofs.Turning.{Spare, turnedList-fits, length-turned, value-turned, current-turned, whole-turned}
+use Rattle.blocks.proofs.Merging.{length-merged, value-merged, updateOnes-merged, current-merged, whole-merged}
+use Rattle.blocks.proofs.Turning.{Spare, turnedList-fits, length-turned, value-turned, update-turned, current-turned, whole-turned}
 
 -- ---- before the row is turned over
 
@@ -29,7 +29,8 @@ pub record Ready (shape : Shape) (row : ℕ) (groups block : List ℕ) : Type 0 
   pub spare : Spare shape row block
   pub same : current shape block ≡ groups
 
-module _ (shape : Shape) (limits : Limits shape) (row : ℕ) (block : List ℕ) (long : length block ≡ blockSize shape) (whole : wholeLists shape block ≡ true) where
+module _ (shape : Shape) (limits : Limits shape) (row : ℕ) (block : List ℕ)
+    (long : length block ≡ blockSize shape) (whole : wholeLists shape block ≡ true) where
   -- where no merge is due, U has room
   pub kept-ready : mergeDue shape row block ≡ false → Ready shape row (current shape block) block
   unfolding mergeDue
@@ -47,7 +48,7 @@ module _ (shape : Shape) (limits : Limits shape) (row : ℕ) (block : List ℕ) 
       record {
         long = length-merged shape limits block whole;
         whole = whole-merged shape limits block whole;
-        spare = λ none. omega (arith, updateOnes-merged shape limits block whole, limits .someThreshold);
+        spare = λ none. omega (arith, updateOnes-merged shape limits block whole);
         same = current-merged shape limits block whole;
       }
 
@@ -63,14 +64,18 @@ module _ (shape : Shape) (limits : Limits shape) (row : ℕ) (block : List ℕ) 
 
 module _ (shape : Shape) (limits : Limits shape) (row : ℕ) (h : row < shape .rows) (block : List ℕ)
     (long : length block ≡ blockSize shape) (whole : wholeLists shape block ≡ true) where
+  -- the block before the row is turned over, and U's list after it
   abbrev before : List ℕ
   before = cond (mergeDue shape row block) (merged shape block) block
+
+  abbrev new : List ℕ
+  new = turnedList shape row before
 
   is : Ready shape row (current shape block) before
   is = ready shape limits row block long whole
 
-  fits : length (turnedList shape row before) ≤ updateRoom shape
-  fits = turnedList-fits shape limits row h before (is .whole) (is .spare)
+  fits : length new ≤ updateRoom shape
+  fits = turnedList-fits shape limits row h before (is .long) (is .whole) (is .spare)
 
   pub length-flipped : length (flipped shape row block) ≡ blockSize shape
   unfolding flipped
@@ -79,7 +84,7 @@ module _ (shape : Shape) (limits : Limits shape) (row : ℕ) (h : row < shape .r
   -- THEOREM: both lists are whole again
   pub whole-flipped : wholeLists shape (flipped shape row block) ≡ true
   unfolding flipped
-  whole-flipped = whole-turned shape limits row h before (is .whole) (is .long) (is .spare)
+  whole-flipped = whole-turned shape limits row h before (is .long) (is .whole) (is .spare)
 
   -- THEOREM: U has at most T ones
   pub updateOnes-flipped : updateOnes shape (flipped shape row block) ≤ shape .threshold
@@ -88,21 +93,36 @@ module _ (shape : Shape) (limits : Limits shape) (row : ℕ) (h : row < shape .r
   -- THEOREM: V xor U has the row turned over
   pub current-flipped : current shape (flipped shape row block) ≡ turnedOver row (current shape block)
   unfolding flipped
-  current-flipped = current-turned shape limits row h before (is .whole) (is .long) fits ∙ ap (turnedOver row) (is .same)
+  current-flipped = current-turned shape limits row h before (is .long) (is .whole) fits ∙ ap (turnedOver row) (is .same)
 
   pub rowAt-flipped : rowAt (current shape (flipped shape row block)) row ≡ 1 - rowAt (current shape block) row
-  rowAt-flipped =
-      let within : row / 31 < length (current shape block) = omega (arith, limits .groupsAre, length-current shape limits block whole) in
-      rw current-flipped (rowAt-turnedOver row (current shape block) within)
+  rowAt-flipped = rw current-flipped (rowAt-turnedOver row (current shape block) (omega (arith, length-current shape limits block whole)))
 
   -- and every other row as it was
   pub rowAt-flipped-other : (other : ℕ) → (other ≡ row → ⊥) → rowAt (current shape (flipped shape row block)) other ≡ rowAt (current shape block) other
   rowAt-flipped-other other e = rw current-flipped (rowAt-turnedOver-other row (current shape block) other e)
 
+  -- U is put with its room
+  pub update-flipped : UpdateIs shape (length new) (padded (updateRoom shape) new) new (flipped shape row block)
+  unfolding flipped
+  update-flipped = update-turned shape row before (is .long) fits
+
   -- THEOREM: where no merge is due, V stays as it stands
-  pub value-flipped : mergeDue shape row block ≡ false
+  pub value-kept : mergeDue shape row block ≡ false
       → ValueIs shape (valueLength block) (valueWords shape block) (valueList shape block) (flipped shape row block)
   unfolding flipped
-  value-flipped e =
-      let room = kept-ready shape limits row block long whole e in
-      rw e (value-turned shape row block long (turnedList-fits shape limits row h block whole (room .spare)))
+  value-kept none =
+      let spare = kept-ready shape limits row block long whole none .spare in
+      rw none (value-turned shape row block long (turnedList-fits shape limits row h block long whole spare))
+
+  -- THEOREM: where one is due, V becomes the list of V xor U
+  pub value-renewed : mergeDue shape row block ≡ true
+      → ValueIs shape (length (encode (current shape block))) (padded (shape .groups) (encode (current shape block))) (encode (current shape block))
+      (flipped shape row block)
+  unfolding flipped
+  value-renewed due =
+      let ready = merged-ready shape limits row block long whole in
+      let room = turnedList-fits shape limits row h (merged shape block) (ready .long) (ready .whole) (ready .spare) in
+      let stays = value-turned shape row (merged shape block) (ready .long) room in
+      let is = value-merged shape limits block whole in
+      rw due (record { counts = stays .counts ∙ is .counts; fills = stays .fills ∙ is .fills; lists = stays .lists ∙ is .lists })

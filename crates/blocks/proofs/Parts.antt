@@ -1,4 +1,4 @@
--- Laws of a part of a list, and of other words written in its place. Assumes nothing.
+-- Laws of a part of a list, and of other items written in its place. Assumes nothing.
 use mathlib.Core.Path.{_≡_, refl, _∙_, ap, sym}
 use mathlib.Core.Logic.{_⊎_, ⊎-elim}
 use mathlib.Core.List.{List, [], _∷_, _++_, append-assoc}
@@ -18,25 +18,25 @@ use Rattle.blocks.specs.declared.shape.Shape.{Shape}
 -- ---- parts
 
 -- the last of the first words are the first of the last
-pub drop-take : (from count : ℕ) (words : List ℕ) → drop from (take count words) ≡ take (count - from) (drop from words)
+pub drop-take : {A : Type 0} (from count : ℕ) (words : List A) → drop from (take count words) ≡ take (count - from) (drop from words)
 drop-take zero count words = rw sub-zero refl
 drop-take (suc from) zero words = rw zero-sub refl
 drop-take (suc from) (suc count) [] = rw take-nil refl
 drop-take (suc from) (suc count) (word ∷ words) = rw (suc-sub-suc, drop-take from count words) refl
 
 -- a part is what a slice from one place up to another holds
-pub part-slice : (words : List ℕ) (at count from to : ℕ) → from ≡ at → to - from ≡ count → take (to - from) (drop from words) ≡ part words at count
+pub part-slice : {A : Type 0} (words : List A) (at count from to : ℕ) → from ≡ at → to - from ≡ count → take (to - from) (drop from words) ≡ part words at count
 unfolding part
 part-slice words at count from to e f = rw (f, e) refl
 
-module _ (words : List ℕ) (at : ℕ) where
+module _ {A : Type 0} (words : List A) (at : ℕ) where
   pub length-part : (count : ℕ) → at + count ≤ length words → length (part words at count) ≡ count
   unfolding part
   length-part count h = length-take-le count (drop at words) (omega (arith, length-drop at words))
 
-  pub getD-part : (count i : ℕ) → i < count → getD (part words at count) i 0 ≡ getD words (at + i) 0
+  pub getD-part : (count i : ℕ) (none : A) → i < count → getD (part words at count) i none ≡ getD words (at + i) none
   unfolding part
-  getD-part count i h = rw (getD-take, getD-drop) refl
+  getD-part count i none h = rw (getD-take, getD-drop) refl
 
   pub take-part : (size count : ℕ) → count ≤ size → take count (part words at size) ≡ part words at count
   unfolding part
@@ -54,7 +54,7 @@ module _ (words : List ℕ) (at : ℕ) where
 -- ---- other words from a place on
 
 -- a part that is lent and comes back with as many other words
-pub write-lent : (words : List ℕ) (at count : ℕ) (new : List ℕ) → length new ≡ count
+pub write-lent : {A : Type 0} (words : List A) (at count : ℕ) (new : List A) → length new ≡ count
     → take at words ++ (new ++ drop count (drop at words)) ≡ write words at new
 unfolding write
 write-lent words at count new e = rw (e, drop-drop) refl
@@ -63,7 +63,7 @@ write-lent words at count new e = rw (e, drop-drop) refl
 abbrev pub Apart : ℕ → ℕ → ℕ → ℕ → Type 0
 Apart at count other more = (at + count ≤ other) ⊎ (other + more ≤ at)
 
-module _ (words : List ℕ) (at : ℕ) (new : List ℕ) (fits : at + length new ≤ length words) where
+module _ {A : Type 0} (words : List A) (at : ℕ) (new : List A) (fits : at + length new ≤ length words) where
   before : length (take at words) ≡ at
   before = length-take-le at words (omega arith)
 
@@ -109,7 +109,7 @@ module _ (words : List ℕ) (at : ℕ) (new : List ℕ) (fits : at + length new 
   part-apart other count apart = ⊎-elim (part-behind other count) (part-before other count) apart
 
 -- a write within what was written
-pub write-within : (words : List ℕ) (at : ℕ) (new : List ℕ) (from : ℕ) (newer : List ℕ) → at + length new ≤ length words → from + length newer ≤ length new
+pub write-within : {A : Type 0} (words : List A) (at : ℕ) (new : List A) (from : ℕ) (newer : List A) → at + length new ≤ length words → from + length newer ≤ length new
     → write (write words at new) (at + from) newer ≡ write words at (write new from newer)
 unfolding write
 write-within words at new from newer fits h =
@@ -126,22 +126,22 @@ write-within words at new from newer fits h =
     (simp append-assoc)
 
 -- a second write at the same place
-pub write-write : (words : List ℕ) (at : ℕ) (new newer : List ℕ) → at + length new ≤ length words → length newer ≡ length new
+pub write-write : {A : Type 0} (words : List A) (at : ℕ) (new newer : List A) → at + length new ≤ length words → length newer ≡ length new
     → write (write words at new) at newer ≡ write words at newer
 unfolding write
 write-write words at new newer h e = rw (take-write words at new h, e, drop-behind words at new h) refl
 
 -- what stands there already
-pub write-part : (words : List ℕ) (at count : ℕ) → at + count ≤ length words → write words at (part words at count) ≡ words
+pub write-part : {A : Type 0} (words : List A) (at count : ℕ) → at + count ≤ length words → write words at (part words at count) ≡ words
 unfolding part
 write-part words at count h = sym (write-lent words at count (part words at count) (length-part words at count h)) ∙ put-same at count words
 
 -- a write within a part is a write of the part
-pub write-inside : (words : List ℕ) (at size from : ℕ) (new : List ℕ) → at + size ≤ length words → from + length new ≤ size
+pub write-inside : {A : Type 0} (words : List A) (at size from : ℕ) (new : List A) → at + size ≤ length words → from + length new ≤ size
     → write words (at + from) new ≡ write words at (write (part words at size) from new)
-write-inside words at size from new fits h =
+write-inside {A = A} words at size from new fits h =
     let long = length-part words at size fits in
-    ap (λ (same : List ℕ). write same (at + from) new) (sym (write-part words at size fits))
+    ap (λ (same : List A). write same (at + from) new) (sym (write-part words at size fits))
     ∙ write-within words at (part words at size) from new (omega arith) (omega arith)
 
 -- ---- stores
@@ -158,10 +158,10 @@ write-sets words at new h = rw (sets-eq new words at h, append-assoc) refl
 
 module _ (shape : Shape) (words : List ℕ) (at : ℕ) where
   pub value-length : valueLength (part words at (blockSize shape)) ≡ getD words at 0
-  value-length = rw (getD-part words at (blockSize shape) 0 (omega arith), add-zero) refl
+  value-length = rw (getD-part words at (blockSize shape) 0 0 (omega arith), add-zero) refl
 
   pub update-length : updateLength (part words at (blockSize shape)) ≡ getD words (at + 1) 0
-  update-length = getD-part words at (blockSize shape) 1 (omega arith)
+  update-length = getD-part words at (blockSize shape) 1 0 (omega arith)
 
   -- V from a place on, as a slice
   pub value-slice : (place from to : ℕ) → from ≡ at + 2 + place → to ≡ at + 2 + getD words at 0 → getD words at 0 ≤ shape .groups

@@ -22,7 +22,7 @@ use Rattle.blocks.specs.declared.shape.Shape.{Shape}
 use Rattle.blocks.proofs.Rooms.{length-padded}
 use Rattle.blocks.proofs.Blocks.{ValueIs, UpdateIs, length-withUpdate, value-withUpdate, update-put}
 use Rattle.blocks.proofs.WholeLists.{WholeParts, whole-parts, parts-whole, value-covers, update-covers, length-current}
-use Rattle.blocks.proofs.change.Exclusive.{xor-turnedOver}
+use Rattle.lists.proofs.Exclusive.{xor-turnedOver}
 
 -- ---- what is read of the block
 
@@ -40,17 +40,18 @@ module _ (shape : Shape) (row : ℕ) (block : List ℕ) (long : length block ≡
   unfolding turned
   value-turned = value-withUpdate shape block long (length list) (padded (updateRoom shape) list) (length-padded (updateRoom shape) list fits)
 
+  -- U is put with its room
   pub update-turned : UpdateIs shape (length list) (padded (updateRoom shape) list) list (turned shape row block)
   unfolding turned
   update-turned = update-put shape block long list fits
 
 -- ---- the number of ones
 
--- U has fewer than T ones where the row's bit in it is 0
+-- U has fewer than T ones, or the row's bit in it is 1
 abbrev pub Spare : Shape → ℕ → List ℕ → Type 0
 Spare shape row block = rowAt (decode (updateList shape block)) row ≡ 0 → updateOnes shape block < shape .threshold
 
--- so many ones at most stay so many, if a row that is 0 finds fewer
+-- at most so many ones stay at most so many, if there are fewer or the row is 1
 ones-turnedOver : (row most : ℕ) (groups : List ℕ) → row / 31 < length groups → onesIn (rowsOf groups) ≤ most
     → (rowAt groups row ≡ 0 → onesIn (rowsOf groups) < most) → onesIn (rowsOf (turnedOver row groups)) ≤ most
 ones-turnedOver row most groups within few spare = go (eqb (rowAt groups row) 0) refl
@@ -65,59 +66,47 @@ ones-turnedOver row most groups within few spare = go (eqb (rowAt groups row) 0)
 
 -- ---- a block whose lists are whole
 
-module _ (shape : Shape) (limits : Limits shape) (row : ℕ) (h : row < shape .rows) (block : List ℕ) (whole : wholeLists shape block ≡ true) where
+module _ (shape : Shape) (limits : Limits shape) (row : ℕ) (h : row < shape .rows) (block : List ℕ)
+    (long : length block ≡ blockSize shape) (whole : wholeLists shape block ≡ true) where
   parts : WholeParts shape block
   parts = whole-parts shape block whole
+
+  abbrev value : List ℕ
+  value = decode (valueList shape block)
 
   abbrev update : List ℕ
   update = decode (updateList shape block)
 
+  long-value : length value ≡ shape .groups
+  long-value = value-covers shape limits block whole .long
+
   long-update : length update ≡ shape .groups
   long-update = update-covers shape limits block whole .long
 
-  long-value : length (decode (valueList shape block)) ≡ shape .groups
-  long-value = value-covers shape limits block whole .long
-
   within : row / 31 < length update
-  within = omega (arith, limits .groupsAre, long-update)
+  within = omega (arith, long-update)
 
   decode-turnedList : decode (turnedList shape row block) ≡ turnedOver row update
   unfolding turnedList
-  decode-turnedList =
-      decode-encode (turnedOver row update) (turnedOver-lt row update)
-      (omega (arith, length-turnedOver row update, long-update, limits .groupsAre, limits .fewRows))
+  decode-turnedList = decode-encode (turnedOver row update) (turnedOver-lt row update) (omega (arith, length-turnedOver row update, long-update))
 
   canonical-turnedList : canonical (shape .rows) (turnedList shape row block) ≡ true
   unfolding turnedList
   canonical-turnedList = canonical-turnedOver (shape .rows) row (updateList shape block) h (limits .fewRows) (parts .update-canonical)
 
-  ones-fit : Spare shape row block → onesIn (rowsOf (turnedOver row update)) ≤ shape .threshold
+  few-turned : Spare shape row block → onesIn (rowsOf (turnedOver row update)) ≤ shape .threshold
   unfolding updateOnes
-  ones-fit = ones-turnedOver row (shape .threshold) update within (parts .few-ones)
+  few-turned = ones-turnedOver row (shape .threshold) update within (parts .few-ones)
 
   -- THEOREM: the room of U is never exceeded
   pub turnedList-fits : Spare shape row block → length (turnedList shape row block) ≤ updateRoom shape
   unfolding turnedList
-  turnedList-fits spare = omega (arith, encode-ones (turnedOver row update) (turnedOver-lt row update), ones-fit spare)
+  turnedList-fits spare = omega (arith, encode-ones (turnedOver row update) (turnedOver-lt row update), few-turned spare)
 
-  module _ (long : length block ≡ blockSize shape) (fits : length (turnedList shape row block) ≤ updateRoom shape) where
+  module _ (fits : length (turnedList shape row block) ≤ updateRoom shape) where
     -- THEOREM: U has the row turned over
     pub decode-turned : decode (updateList shape (turned shape row block)) ≡ turnedOver row (decode (updateList shape block))
     decode-turned = ap decode (update-turned shape row block long fits .lists) ∙ decode-turnedList
-
-    -- THEOREM: V xor U has the row turned over
-    pub current-turned : current shape (turned shape row block) ≡ turnedOver row (current shape block)
-    unfolding current
-    current-turned =
-        rw (value-turned shape row block long fits .lists, decode-turned)
-        (xor-turnedOver row (decode (valueList shape block)) update (long-value ∙ sym long-update) (omega (arith, long-value, long-update, within)))
-
-    pub rowAt-turned : rowAt (current shape (turned shape row block)) row ≡ 1 - rowAt (current shape block) row
-    rowAt-turned =
-        rw current-turned (rowAt-turnedOver row (current shape block) (omega (arith, within, long-update, length-current shape limits block whole)))
-
-    pub rowAt-turned-other : (other : ℕ) → (other ≡ row → ⊥) → rowAt (current shape (turned shape row block)) other ≡ rowAt (current shape block) other
-    rowAt-turned-other other e = rw current-turned (rowAt-turnedOver-other row (current shape block) other e)
 
     -- THEOREM: U has one more one, or one less
     pub updateOnes-more : rowAt (decode (updateList shape block)) row ≡ 0 → updateOnes shape (turned shape row block) ≡ updateOnes shape block + 1
@@ -128,17 +117,31 @@ module _ (shape : Shape) (limits : Limits shape) (row : ℕ) (h : row < shape .r
     unfolding updateOnes
     updateOnes-less e = rw decode-turned (onesIn-less row update within e)
 
+    -- THEOREM: V xor U has the row turned over
+    pub current-turned : current shape (turned shape row block) ≡ turnedOver row (current shape block)
+    unfolding current
+    current-turned =
+        rw (value-turned shape row block long fits .lists, decode-turned)
+        (xor-turnedOver row value update (long-value ∙ sym long-update) (omega (arith, long-value)))
+
+    pub rowAt-turned : rowAt (current shape (turned shape row block)) row ≡ 1 - rowAt (current shape block) row
+    rowAt-turned = rw current-turned (rowAt-turnedOver row (current shape block) (omega (arith, length-current shape limits block whole)))
+
+    -- and every other row as it was
+    pub rowAt-turned-other : (other : ℕ) → (other ≡ row → ⊥) → rowAt (current shape (turned shape row block)) other ≡ rowAt (current shape block) other
+    rowAt-turned-other other e = rw current-turned (rowAt-turnedOver-other row (current shape block) other e)
+
   -- THEOREM: both lists are whole again
-  pub whole-turned : length block ≡ blockSize shape → Spare shape row block → wholeLists shape (turned shape row block) ≡ true
-  whole-turned long spare =
+  pub whole-turned : Spare shape row block → wholeLists shape (turned shape row block) ≡ true
+  whole-turned spare =
       let fits = turnedList-fits spare in
-      let value = value-turned shape row block long fits in
-      let new = update-turned shape row block long fits in
+      let stays = value-turned shape row block long fits in
+      let turns = update-turned shape row block long fits in
       parts-whole shape (turned shape row block)
       (record {
-        value-short = rw (value .counts) (parts .value-short);
-        update-short = rw (new .counts) fits;
-        value-canonical = rw (value .lists) (parts .value-canonical);
-        update-canonical = rw (new .lists) canonical-turnedList;
-        few-ones = unfold updateOnes in rw (decode-turned long fits) (ones-fit spare);
+        value-short = rw (stays .counts) (parts .value-short);
+        update-short = rw (turns .counts) fits;
+        value-canonical = rw (stays .lists) (parts .value-canonical);
+        update-canonical = rw (turns .lists) canonical-turnedList;
+        few-ones = unfold updateOnes in rw (decode-turned fits) (few-turned spare);
       })

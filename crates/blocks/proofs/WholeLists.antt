@@ -103,16 +103,15 @@ module _ (shape : Shape) (limits : Limits shape) (block : List ℕ) (whole : who
   pub decode-current : decode (encode (current shape block)) ≡ current shape block
   decode-current = decode-encode (current shape block) current-lt few-groups
 
-  -- the bits past R stay zero
-  current-clear : clearFrom (shape .rows) (current shape block) ≡ true
-  current-clear =
-      let v = canonical-parts (shape .rows) (valueList shape block) (parts .value-canonical) .clear in
-      let u = canonical-parts (shape .rows) (updateList shape block) (parts .update-canonical) .clear in
-      rowAt-clearFrom (shape .rows) (current shape block)
+  -- where V and U have no bit from a row on, V xor U has none
+  pub clear-current : (limit : ℕ) → clearFrom limit (decode (valueList shape block)) ≡ true → clearFrom limit (decode (updateList shape block)) ≡ true
+      → clearFrom limit (current shape block) ≡ true
+  clear-current limit v u =
+      rowAt-clearFrom limit (current shape block)
       (λ row h. rowAt-current row
       ∙ ap₂ (answer exclusive)
-      (clearFrom-rowAt (shape .rows) (decode (valueList shape block)) v row h)
-      (clearFrom-rowAt (shape .rows) (decode (updateList shape block)) u row h))
+      (clearFrom-rowAt limit (decode (valueList shape block)) v row h)
+      (clearFrom-rowAt limit (decode (updateList shape block)) u row h))
 
   -- THEOREM: V xor U is canonical
   pub canonical-current : canonical (shape .rows) (encode (current shape block)) ≡ true
@@ -121,7 +120,10 @@ module _ (shape : Shape) (limits : Limits shape) (block : List ℕ) (whole : who
       (record {
         form = encode-form (current shape block) current-lt few-groups;
         long = ap length decode-current ∙ length-current ∙ limits .groupsAre;
-        clear = rw decode-current current-clear;
+        clear = rw decode-current
+            (clear-current (shape .rows)
+            (canonical-parts (shape .rows) (valueList shape block) (parts .value-canonical) .clear)
+            (canonical-parts (shape .rows) (updateList shape block) (parts .update-canonical) .clear));
       })
 
 -- ---- the lists of a block in the lent words

@@ -7,13 +7,13 @@ use Rattle.lists.specs.Combine.{exclusive, combined}
 use Rattle.blocks.specs.Shape.{updateRoom}
 use Rattle.blocks.specs.declared.shape.Shape.{Shape}
 
--- so many words of a list from a place on
-unfoldable pub part : List ℕ → ℕ → ℕ → List ℕ
-part words at count = take count (drop at words)
+-- so many items of a list from a place on
+unfoldable pub part : {A : Type 0} → List A → ℕ → ℕ → List A
+part items at count = take count (drop at items)
 
--- a list with other words from a place on
-unfoldable pub write : List ℕ → ℕ → List ℕ → List ℕ
-write words at new = take at words ++ (new ++ drop (at + length new) words)
+-- a list with other items from a place on
+unfoldable pub write : {A : Type 0} → List A → ℕ → List A → List A
+write items at new = take at items ++ (new ++ drop (at + length new) items)
 
 -- the value list's length and the update list's length
 abbrev pub valueLength : List ℕ → ℕ

@@ -2,7 +2,7 @@
 ghost use mathlib.Core.Path.{_≡_};
 ghost use mathlib.Core.Bool.{cond};
 ghost use mathlib.Core.List.{List, _++_};
-ghost use Prim.Native.Nat.{min, _+_, _<_, _≤_};
+ghost use Prim.Native.Nat.{_+_, _<_, _≤_};
 ghost use lib.Dec.{eqb};
 ghost use lib.ListN.{length, drop, replicate};
 ghost use Rattle.words.specs.Rows.{groupOf};
@@ -15,6 +15,7 @@ use crate::put::put_value;
 use crate::shape::Shape;
 use words::rows::GROUP_LIMIT;
 use words::rows::groups_for;
+use words::rows::smaller;
 use words::writer::Pending;
 use words::writer::Step;
 use words::writer::finish;
@@ -40,12 +41,6 @@ fn group_with(column: &[u8], value: u8) -> u32
         i += 1;
     }
     group << (31 - i)
-}
-
-fn smaller(x: usize, y: usize) -> usize
-    ensures { λ r. ⌜ r ≡ min x y ⌝ }
-{
-    if x < y { x } else { y }
 }
 
 // `count` groups without a 1 come after a pending run; `count` may be 0.

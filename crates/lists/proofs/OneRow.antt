@@ -16,6 +16,7 @@ use Rattle.words.specs.Writer.{Takes, written, lastWords}
 use Rattle.words.specs.declared.writer.Pending.{Pending}
 use Rattle.words.specs.declared.writer.Step.{Step}
 use Rattle.words.proofs.Group.{power-bit, power-other}
+use Rattle.words.proofs.Groups.{getD-zeros}
 use Rattle.words.proofs.Round.{Groups, decode-encode}
 use Rattle.words.proofs.Runs.{ends-run, last-run, literal-word}
 use Rattle.words.proofs.Writing.{Writing, step-on, ends}
@@ -32,11 +33,6 @@ encode-zeros groups h = ap encode (sym (append-nil (replicate groups 0))) ∙ la
 
 abbrev lone : ℕ → ℕ → ℕ → List ℕ
 lone before group behind = uniform 0 before ++ group ∷ uniform 0 behind
-
-getD-zeros : (count i : ℕ) → getD (uniform 0 count) i 0 ≡ 0
-getD-zeros zero i = refl
-getD-zeros (suc count) zero = refl
-getD-zeros (suc count) (suc i) = getD-zeros count i
 
 getD-lone-other : (before group behind i : ℕ) → (i ≡ before → ⊥) → getD (lone before group behind) i 0 ≡ 0
 getD-lone-other zero group behind zero e = absurd (e refl)

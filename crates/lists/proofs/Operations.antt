@@ -1,7 +1,7 @@
 -- Laws of an operation on two groups: its bits, its bound, and what it makes of uniform groups; the machine's XOR is one. Assumes nothing.
 use mathlib.Core.Path.{_≡_, refl, _∙_, ap₂, sym}
 use mathlib.Core.Bool.{Bool, true, false}
-use Prim.Native.Nat.{ℕ, suc, zero, _+_, _*_, _/_, _%_, _^_, _<_, _≤_}
+use Prim.Native.Nat.{ℕ, suc, zero, _+_, _-_, _*_, _/_, _%_, _^_, _<_, _≤_}
 use native.Mathlib.Omega.{arith}
 use native.Mathlib.Nat.{pow-suc, div-one}
 use native.Mathlib.Numerals.{one-add}
@@ -33,6 +33,12 @@ exclusive-bits zero zero = omega arith
 exclusive-bits zero (suc b) = omega arith
 exclusive-bits (suc a) zero = omega arith
 exclusive-bits (suc a) (suc b) = omega arith
+
+-- 1 turns a bit over, and 0 leaves it
+pub turns : (bit : ℕ) → bit < 2 → (answer exclusive bit 1 ≡ 1 - bit) × (answer exclusive bit 0 ≡ bit)
+turns zero h = (refl, refl)
+turns (suc zero) h = (refl, refl)
+turns (suc (suc bit)) h = absurd (omega arith)
 
 -- ---- bit by bit
 

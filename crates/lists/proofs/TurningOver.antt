@@ -18,7 +18,7 @@ use Rattle.words.proofs.Round.{Groups, decode-encode, encode-form}
 use Rattle.words.proofs.RowsBack.{rowAt-groupsOf, rows-back, same-groups}
 use Rattle.lists.specs.Combine.{exclusive, answer, combined}
 use Rattle.lists.specs.OneRow.{oneRow, turnedOver}
-use Rattle.lists.proofs.Operations.{exclusive-bits}
+use Rattle.lists.proofs.Operations.{exclusive-bits, turns}
 use Rattle.lists.proofs.Combining.{length-combined, combined-lt, rowAt-combined-any}
 use Rattle.lists.proofs.OneRow.{length-oneRow, rowAt-oneRow, rowAt-oneRow-other}
 
@@ -86,12 +86,6 @@ module _ (row : ℕ) (groups : List ℕ) where
     onesIn-less e = omega (arith, onesIn-turnedOver)
 
 -- ---- by XOR
-
--- 1 turns a bit over, and 0 leaves it
-turns : (bit : ℕ) → bit < 2 → (answer exclusive bit 1 ≡ 1 - bit) × (answer exclusive bit 0 ≡ bit)
-turns zero h = (refl, refl)
-turns (suc zero) h = (refl, refl)
-turns (suc (suc bit)) h = absurd (omega arith)
 
 -- THEOREM: the XOR of some groups with those of one row has that row turned over
 pub xor-oneRow : (count row : ℕ) (groups : List ℕ) → length groups ≡ count → row / 31 < count

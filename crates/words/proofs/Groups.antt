@@ -110,6 +110,15 @@ getD-rowsOf (group ∷ groups) row = go (ltb row 31) refl (getD-rowsOf groups (r
 pub rowAt-past : (groups : List ℕ) (row : ℕ) → 31 * length groups ≤ row → rowAt groups row ≡ 0
 rowAt-past groups row h = rw (List·getD-eq-default groups 0 {n = row / 31} (omega arith), zero-div) refl
 
+-- no row of zero groups is 1
+pub getD-zeros : (count i : ℕ) → getD {A = ℕ} (replicate count 0) i 0 ≡ 0
+getD-zeros zero i = refl
+getD-zeros (suc count) zero = refl
+getD-zeros (suc count) (suc i) = getD-zeros count i
+
+pub rowAt-zeros : (count row : ℕ) → rowAt (replicate count 0) row ≡ 0
+rowAt-zeros count row = rw (getD-zeros count (row / 31), zero-div) refl
+
 -- ---- groups of one bit
 
 zero-rows : bitsOf 31 (0 * allOnes) ≡ replicate 31 0

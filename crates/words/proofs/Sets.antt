@@ -22,7 +22,7 @@ module _ (out : List ℕ) (at count : ℕ) (words : List ℕ) (long : length wor
   sets-behind = ap (drop (at + count)) split ∙ drop-at (take at out ++ words) (drop (at + count) out) (at + count) front-length
 
 -- lists that agree from a place on agree further on
-pub drop-further : (out out₀ : List ℕ) (at count : ℕ) → drop at out ≡ drop at out₀ → drop (at + count) out ≡ drop (at + count) out₀
+pub drop-further : {A : Type 0} (out out₀ : List A) (at count : ℕ) → drop at out ≡ drop at out₀ → drop (at + count) out ≡ drop (at + count) out₀
 drop-further out out₀ at count e = sym (drop-drop count at out) ∙ ap (drop count) e ∙ drop-drop count at out₀
 
 -- a list is copied over the front of another, element by element

@@ -2,7 +2,7 @@
 ghost use mathlib.Core.Path.{_≡_};
 ghost use mathlib.Core.Bool.{true};
 ghost use mathlib.Core.List.{_++_};
-ghost use Prim.Native.Nat.{min, _≤_};
+ghost use Prim.Native.Nat.{_≤_};
 ghost use lib.ListN.{length, drop};
 ghost use Rattle.answers.specs.Outcome.{Gives};
 ghost use Rattle.words.specs.Rows.{rowLimit, areBits};
@@ -13,6 +13,7 @@ use crate::rows::ROW_LIMIT;
 use crate::rows::all_bits;
 use crate::rows::group_of;
 use crate::rows::groups_for;
+use crate::rows::smaller;
 use crate::writer::Pending;
 use crate::writer::copy;
 use crate::writer::finish;
@@ -20,12 +21,6 @@ use crate::writer::next_step;
 use crate::writer::store;
 use answers::Answer;
 use answers::Refusal;
-
-fn smaller(x: usize, y: usize) -> usize
-    ensures { λ r. ⌜ r ≡ min x y ⌝ }
-{
-    if x < y { x } else { y }
-}
 
 // Writes the list of some rows to a place that is long enough; answers its length.
 fn pack_into(rows: &[u8], out: &mut [u32]) -> usize

@@ -1,7 +1,7 @@
 // Rows and groups: a group is 31 rows in a word, the first row at the highest of its 31 bits.
 ghost use mathlib.Core.Path.{_≡_};
 ghost use mathlib.Core.Bool.{true};
-ghost use Prim.Native.Nat.{ℕ, _-_, _/_, _%_, _^_, _<_, _≤_};
+ghost use Prim.Native.Nat.{ℕ, min, _-_, _/_, _%_, _^_, _<_, _≤_};
 ghost use lib.ListN.{length, take};
 ghost use Rattle.words.specs.Rows.{rowLimit, groupsFor, areBits, groupOf, bitsOf};
 
@@ -45,6 +45,12 @@ pub const MASKS: [u32; 31] = [
     0x00000002,
     0x00000001,
 ];
+
+pub fn smaller(x: usize, y: usize) -> usize
+    ensures { λ r. ⌜ r ≡ min x y ⌝ }
+{
+    if x < y { x } else { y }
+}
 
 // M: how many groups `length` rows have.
 pub fn groups_for(length: usize) -> usize

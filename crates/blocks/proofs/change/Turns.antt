@@ -23,22 +23,22 @@ use Rattle.blocks.proofs.WholeLists.{update-covers}
 module _ (shape : Shape) (limits : Limits shape) (row : ℕ) (h : row < shape .rows) (block : List ℕ) (whole : wholeLists shape block ≡ true)
     (left : List ℕ) (l : left ≡ updateList shape block) (short : Short) (packs : Packs (oneRow (shape .groups) row) short) where
   within : row / 31 < shape .groups
-  within = omega (arith, limits .groupsAre)
+  within = omega arith
 
   few : shape .groups ≤ 4096
-  few = omega (arith, limits .groupsAre, limits .fewRows)
+  few = omega arith
 
   abbrev right : List ℕ
   right = take (short .count) (short .words)
 
-  -- THEOREM: the list of the XOR is U with the row turned over
+  -- the list of the XOR is U with the row turned over
   is-turned : encode (combined exclusive (decode left) (decode right)) ≡ turnedList shape row block
   unfolding turnedList
   is-turned =
       rw (l, decode-oneRow (shape .groups) row within (omega (arith, few)) short packs)
       (ap encode (xor-oneRow (shape .groups) row (decode (updateList shape block)) (update-covers shape limits block whole .long) within))
 
-  -- the XOR may be made
+  -- the XOR may be made, and leaves that list
   pub turns : (out : List ℕ) → length (turnedList shape row block) ≤ length out
       → Covers (shape .groups) left × Covers (shape .groups) right × (shape .groups ≤ 4096)
       × (length (encode (combined exclusive (decode left) (decode right))) ≤ length out)

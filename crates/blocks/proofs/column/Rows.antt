@@ -9,7 +9,7 @@ use lib.Dec.{ltb, eqb}
 use lib.ListN.{length, getD, take, drop, replicate, drop-of-length-le}
 use lib.Seq.{take-nil, drop-nil, drop-drop}
 use Rattle.words.specs.Rows.{areBits, groupsFor, cut, groupsOf}
-use Rattle.words.proofs.Groups.{length-groupsOf}
+use Rattle.words.proofs.Groups.{length-groupsOf, getD-zeros}
 use Rattle.blocks.specs.Block.{padded}
 use Rattle.blocks.specs.Column.{rowsWith}
 
@@ -64,17 +64,12 @@ cut-padded count rows h =
     ∙ cut-more filled (count - filled) rows
     ∙ rw (drop-of-length-le rows {i = 31 * filled} (omega arith), cut-none, length-groupsOf rows) refl
 
-zeros-at : (count i : ℕ) → getD {A = ℕ} (replicate count 0) i 0 ≡ 0
-zeros-at zero i = refl
-zeros-at (suc count) zero = refl
-zeros-at (suc count) (suc i) = zeros-at count i
-
 -- and change no group
 pub getD-padded : (room : ℕ) (groups : List ℕ) (i : ℕ) → getD (padded room groups) i 0 ≡ getD groups i 0
 unfolding padded
 getD-padded room groups i = go (room - length groups) groups i
   where
     go : (count : ℕ) (groups : List ℕ) (i : ℕ) → getD (groups ++ replicate count 0) i 0 ≡ getD groups i 0
-    go count [] i = zeros-at count i
+    go count [] i = getD-zeros count i
     go count (group ∷ groups) zero = refl
     go count (group ∷ groups) (suc i) = go count groups i

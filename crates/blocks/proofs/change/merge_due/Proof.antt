@@ -1,20 +1,21 @@
 -- `merge_due` finds whether a merge is due: by U's ones, then by the row's bit in U, whose group is always read since U is whole.
-use mathlib.Core.Path.{_∙_, sym}
-use Prim.Native.Nat.{_<_, _≤_}
+use mathlib.Core.List.{List}
+use Prim.Native.Nat.{ℕ}
 use native.Mathlib.Omega.{arith}
 use borrow.Author.Needs.{needs}
 use Rattle.blocks.specs.Shape.{blockSize}
 use Rattle.blocks.specs.Block.{part}
-use Rattle.blocks.specs.Whole.{updateOnes}
 use Rattle.blocks.proofs.change.Due.{none-due, never-broken, bit-decides}
 use Rattle.blocks.proofs.change.merge_due.Statement.{statement}
 use Rattle.blocks.proofs.change.merge_due.Tie as tie
 
+abbrev block : tie.Start → List ℕ
+block c = part (c .args .words .now) (c .args .at) (blockSize (c .args .shape))
+
 returns : tie.Need-returns
 returns c =
     let start = c .before .before .before in
-    let block = part (start .args .words .now) (start .args .at) (blockSize (start .args .shape)) in
-    none-due (start .args .shape) (start .args .row) block (omega (arith, start .pre .4))
+    none-due (start .args .shape) (start .args .row) (block start) (omega (arith, start .pre .4))
 
 read-update-requires : tie.Need-read-update-requires
 read-update-requires c κs = search needs
@@ -28,10 +29,10 @@ enum-told c = search needs
 returns-2 : tie.Need-returns-2
 returns-2 c =
     let start = c .before .before .before .before .before .before in
-    let block = part (start .args .words .now) (start .args .at) (blockSize (start .args .shape)) in
+    let read = c .before .before .read-update in
     absurd
-    (never-broken (start .args .shape) (start .args .row) block (start .pre .0) (start .pre .2) (start .pre .3)
-    (sym (c .before .before .read-update .ensures) ∙ c .enum-told .given .1))
+    (never-broken (start .args .shape) (start .args .row) (block start) (start .pre .0) (start .pre .2) (start .pre .3) (read .result) (read .ensures)
+    (c .enum-told .given .1))
 
 cast-row-of : tie.Need-cast-row-of
 cast-row-of c = search needs
@@ -42,9 +43,9 @@ row-of-requires c κs = search needs
 returns-3 : tie.Need-returns-3
 returns-3 c =
     let start = c .before .before .before .before .before .before .before .before in
-    let block = part (start .args .words .now) (start .args .at) (blockSize (start .args .shape)) in
-    bit-decides (start .args .shape) (start .args .row) block (start .pre .0) (start .pre .2) (start .pre .3) _ _ (c .row-of .result)
-    (omega (arith, start .pre .4)) (sym (c .before .before .before .before .read-update .ensures) ∙ c .before .before .group .given .1) (c .row-of .ensures)
+    let read = c .before .before .before .before .read-update in
+    bit-decides (start .args .shape) (start .args .row) (block start) (start .pre .0) (start .pre .2) (start .pre .3) (read .result) (read .ensures)
+    _ _ (c .row-of .result) (c .before .before .group .given .1) (omega (arith, start .pre .4)) (c .row-of .ensures)
 
 pub merge-due-spec : {M : Type 1} → statement M
 merge-due-spec =

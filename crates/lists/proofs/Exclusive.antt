@@ -3,41 +3,28 @@ use mathlib.Core.Path.{_≡_, refl, _∙_, sym}
 use mathlib.Core.Bool.{Bool, true, false}
 use mathlib.Core.List.{List}
 use Prim.Native.Nat.{ℕ, suc, zero, _-_, _/_, _<_}
-use native.Mathlib.Nat.{zero-div}
 use native.Mathlib.Omega.{arith}
 use lib.Dec.{eqb}
-use lib.ListN.{length, getD, replicate, length-replicate}
+use lib.ListN.{length, replicate, length-replicate}
 use borrow.Author.Tests.{eqb-true, eqb-false}
 use Rattle.words.specs.Rows.{rowAt}
+use Rattle.words.proofs.Groups.{rowAt-zeros}
 use Rattle.words.proofs.Round.{Groups}
 use Rattle.words.proofs.RowsBack.{same-groups}
 use Rattle.lists.specs.Combine.{exclusive, answer, combined}
 use Rattle.lists.specs.OneRow.{turnedOver}
 use Rattle.lists.proofs.Combining.{length-combined, combined-lt, rowAt-combined-any}
-use Rattle.lists.proofs.Operations.{exclusive-bits}
+use Rattle.lists.proofs.Operations.{exclusive-bits, turns}
 use Rattle.lists.proofs.TurningOver.{length-turnedOver, turnedOver-lt, rowAt-turnedOver, rowAt-turnedOver-other}
 
 -- ---- with zeros
-
-zeros-at : (count i : ℕ) → getD {A = ℕ} (replicate count 0) i 0 ≡ 0
-zeros-at zero i = refl
-zeros-at (suc count) zero = refl
-zeros-at (suc count) (suc i) = zeros-at count i
-
-rowAt-zeros : (count row : ℕ) → rowAt (replicate count 0) row ≡ 0
-rowAt-zeros count row = rw (zeros-at count (row / 31), zero-div) refl
-
-answer-zero : (bit : ℕ) → bit < 2 → answer exclusive bit 0 ≡ bit
-answer-zero zero h = refl
-answer-zero (suc zero) h = refl
-answer-zero (suc (suc bit)) h = absurd (omega arith)
 
 -- THEOREM: an XOR with zeros changes nothing
 pub xor-zeros : (count : ℕ) (groups : List ℕ) → Groups groups → length groups ≡ count → combined exclusive groups (replicate count 0) ≡ groups
 xor-zeros count groups small long =
     same-groups (combined exclusive groups zeros) groups (combined-lt exclusive exclusive-bits groups zeros) small
     (length-combined exclusive groups zeros same)
-    (λ row. rowAt-combined-any exclusive exclusive-bits groups zeros row same refl ∙ rw (rowAt-zeros count row) (answer-zero (rowAt groups row) (omega arith)))
+    (λ row. rowAt-combined-any exclusive exclusive-bits groups zeros row same refl ∙ rw (rowAt-zeros count row) (turns (rowAt groups row) (omega arith) .1))
   where
     zeros : List ℕ
     zeros = replicate count 0
