@@ -99,7 +99,7 @@ fn tail_clear(group: u32, unused: usize) -> bool
     group & ((1 << unused) - 1) == 0
 }
 
-// The whole check of a list for `length` rows. Each word is read once.
+// The whole check of a list for `length` rows: one pass, each word read once, whatever the words are.
 pub fn check(list: &[u32], length: usize) -> Checked
     requires { ⌜ length ≤ rowLimit ⌝ }
     ensures { λ r. ⌜ r ≡ checkOf (now (list .entry)) length ⌝ }

@@ -56,7 +56,12 @@ fn pack_aside(rows: &[u8], out: &mut [u32]) -> Answer
     Answer::Done(length)
 }
 
-// Writes the canonical list of some rows, a byte 0 or 1 each.
+// Pack: writes the canonical list of some rows, a byte 0 or 1 each, and answers its length in words.
+//
+// Refuses a byte above 1 (BAD_VALUE), more than 126,976 rows (FULL) and an output that is shorter than
+// the list (OUT_SMALL); the output is then as it was. A word for each 31 rows, rounded up, is always
+// enough, and 2k + 1 words are for k ones. The rows are read twice, once for the refusals; each word is
+// written once, and once more from the stack where the output has fewer words than the rows have groups.
 pub fn pack(rows: &[u8], out: &mut [u32]) -> Answer
     ensures { λ r. ⌜ Gives (packOutcome (now (rows .entry)) (now (out .entry))) r (now (out .exit)) ⌝ }
 {

@@ -65,7 +65,12 @@ fn unpack_into(list: &[u32], out: &mut [u8])
     }
 }
 
-// Writes the rows of the canonical list for `length` rows, a byte a row.
+// Unpack: writes the rows of the canonical list for `length` rows, a byte 0 or 1 each, and answers their
+// number.
+//
+// Refuses more than 126,976 rows (FULL), an output of fewer bytes than rows (OUT_SMALL) and any other
+// list than the canonical one (BAD_LIST); the output is then as it was. Each word is read twice, once for
+// the check; each byte is written once.
 pub fn unpack(list: &[u32], length: usize, out: &mut [u8]) -> Answer
     ensures { λ r. ⌜ Gives (unpackOutcome (now (list .entry)) length (now (out .entry))) r (now (out .exit)) ⌝ }
 {
