@@ -1,0 +1,75 @@
+-- Changes and queries of one value of an index, given its sizes: behind the whole check of the lists that they touch.
+use mathlib.Core.Path.{_≡_}
+use mathlib.Core.Bool.{Bool, true, false, not, cond, _&&_}
+use mathlib.Core.List.{List, [], _∷_}
+use Prim.Native.Nat.{ℕ, _+_, _*_, _≤_}
+use lib.Dec.{ltb}
+use lib.ListN.{length}
+use Rattle.answers.specs.Outcome.{_when_, Outcome, outcome}
+use Rattle.answers.specs.declared.Refusal.the-variants.{Damaged, OutSmall}
+use Rattle.words.specs.Words.{encode}
+use Rattle.blocks.specs.Shape.{Limits, blockSize, fenceCount}
+use Rattle.blocks.specs.Block.{part, write, current}
+use Rattle.blocks.specs.Whole.{wholeLists}
+use Rattle.blocks.specs.Change.{merged, mergeDue, flipped}
+use Rattle.index.specs.declared.entry.Plan.{Plan}
+use Rattle.index.specs.declared.alter.Alter.{Alter}
+use Rattle.index.specs.declared.alter.Alter.the-variants.{Fails, Keeps, Renews}
+use Rattle.index.specs.declared.alter.Move.{Move}
+use Rattle.index.specs.declared.alter.Move.the-variants.{Breaks, Moves}
+
+-- the sizes are those of a header within its limits, and the value's block lies inside so many words
+pub record Suits (plan : Plan) (words value : ℕ) : Type 0 where
+  pub limits : Limits (plan .shape)
+  pub block : plan .block ≡ blockSize (plan .shape)
+  pub fences : plan .fences ≡ fenceCount (plan .shape)
+  pub inside : value * blockSize (plan .shape) + blockSize (plan .shape) ≤ words
+
+-- the block of a value
+abbrev pub blockIn : Plan → List ℕ → ℕ → List ℕ
+blockIn plan words value = part words (value * blockSize (plan .shape)) (blockSize (plan .shape))
+
+-- the words with another block for a value
+abbrev pub putBlock : Plan → List ℕ → ℕ → List ℕ → List ℕ
+putBlock plan words value block = write words (value * blockSize (plan .shape)) block
+
+abbrev pub isWhole : Plan → List ℕ → ℕ → Bool
+isWhole plan words value = wholeLists (plan .shape) (blockIn plan words value)
+
+-- a merge
+unfoldable pub mergeAlter : Plan → List ℕ → ℕ → Alter
+mergeAlter plan words value = cond (isWhole plan words value) Renews (Fails Damaged)
+
+unfoldable pub mergeWords : Plan → List ℕ → ℕ → List ℕ
+mergeWords plan words value = cond (isWhole plan words value) (putBlock plan words value (merged (plan .shape) (blockIn plan words value))) words
+
+-- a flip of a row
+unfoldable pub flipAlter : Plan → List ℕ → ℕ → ℕ → Alter
+flipAlter plan words value row =
+    cond (isWhole plan words value) (cond (mergeDue (plan .shape) row (blockIn plan words value)) Renews Keeps) (Fails Damaged)
+
+unfoldable pub flipWords : Plan → List ℕ → ℕ → ℕ → List ℕ
+flipWords plan words value row = cond (isWhole plan words value) (putBlock plan words value (flipped (plan .shape) row (blockIn plan words value))) words
+
+-- a row moved from one value to another
+unfoldable pub moveAlter : Plan → List ℕ → ℕ → ℕ → ℕ → Move
+moveAlter plan words old new row =
+    cond (isWhole plan words old && isWhole plan words new)
+    (Moves (mergeDue (plan .shape) row (blockIn plan words old)) (mergeDue (plan .shape) row (blockIn plan words new)))
+    (Breaks Damaged)
+
+unfoldable pub moveWords : Plan → List ℕ → ℕ → ℕ → ℕ → List ℕ
+moveWords plan words old new row =
+    cond (isWhole plan words old && isWhole plan words new)
+    (putBlock plan (putBlock plan words old (flipped (plan .shape) row (blockIn plan words old))) new (flipped (plan .shape) row (blockIn plan words new)))
+    words
+
+-- the list of a value
+unfoldable pub queryValue : Plan → List ℕ → ℕ → List ℕ → Outcome
+queryValue plan words value out =
+    outcome
+    (Damaged when not (isWhole plan words value)
+    ∷ OutSmall when ltb (length out) (length (encode (current (plan .shape) (blockIn plan words value))))
+    ∷ [])
+    (encode (current (plan .shape) (blockIn plan words value)))
+    out

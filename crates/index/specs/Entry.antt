@@ -1,0 +1,51 @@
+-- The refusals that calls begin with, 1 to 5, and the sizes that every call on an index works with.
+use mathlib.Core.Bool.{true, false, not}
+use mathlib.Core.List.{List, [], _∷_}
+use Prim.Native.Nat.{ℕ}
+use lib.Dec.{leb}
+use Rattle.answers.specs.Outcome.{Check, _when_}
+use Rattle.answers.specs.declared.Refusal.the-variants.{BadHeader, Small, BadValue, NoRow, Full}
+use Rattle.blocks.specs.Shape.{blockSize, fenceCount}
+use Rattle.index.specs.Memory.{withinLimits, shapeOf, lent}
+use Rattle.index.specs.declared.header.Header.{Header}
+use Rattle.index.specs.declared.entry.Plan.{Plan}
+use Rattle.index.specs.declared.entry.Entry.{Entry}
+use Rattle.index.specs.declared.entry.Entry.the-variants.{Ready, Stop}
+
+-- the shape of the blocks, B and F
+abbrev pub planOf : Header → Plan
+planOf header = record { shape = shapeOf header; block = blockSize (shapeOf header); fences = fenceCount (shapeOf header) }
+
+-- one check more, behind those that an entry has passed
+abbrev pub asked : Entry → Check → Entry
+asked (Stop refusal) check = Stop refusal
+asked (Ready plan) (refusal when true) = Stop refusal
+asked (Ready plan) (refusal when false) = Ready plan
+
+-- checks in their order: the first reason that applies, or the sizes
+abbrev pub askedAll : Entry → List Check → Entry
+askedAll entry [] = entry
+askedAll entry (check ∷ checks) = askedAll (asked entry check) checks
+
+-- what every call on an index asks first, for so many words and fences lent
+unfoldable pub enteredIndex : ℕ → ℕ → Header → Entry
+enteredIndex words fences header =
+    askedAll (Ready (planOf header)) (BadHeader when not (withinLimits header) ∷ Small when not (lent header words fences) ∷ [])
+
+-- and then the checks of the call's own
+abbrev pub entered : ℕ → ℕ → Header → List Check → Entry
+entered words fences header checks = askedAll (enteredIndex words fences header) checks
+
+abbrev pub enteredValue : ℕ → ℕ → Header → ℕ → Entry
+enteredValue words fences header value = entered words fences header (BadValue when leb (header .values) value ∷ [])
+
+abbrev pub enteredRow : ℕ → ℕ → Header → ℕ → Entry
+enteredRow words fences header row = entered words fences header (NoRow when leb (header .issued) row ∷ [])
+
+abbrev pub enteredUpdate : ℕ → ℕ → Header → ℕ → ℕ → Entry
+enteredUpdate words fences header row value =
+    entered words fences header (BadValue when leb (header .values) value ∷ NoRow when leb (header .issued) row ∷ [])
+
+abbrev pub enteredInsert : ℕ → ℕ → Header → ℕ → Entry
+enteredInsert words fences header value =
+    entered words fences header (BadValue when leb (header .values) value ∷ Full when leb (header .rows) (header .issued) ∷ [])

@@ -1,0 +1,6 @@
+pub mod Memory
+pub mod Entry
+pub mod Alter
+pub mod Reading
+pub mod Outcomes
+pub mod Calls

@@ -1,0 +1,91 @@
+-- Document 01, "Memory of an index": the header's limits, the blocks and fences of each value, and the index that is sound.
+use mathlib.Core.Bool.{Bool, true, _&&_}
+use mathlib.Core.List.{List, [], _∷_}
+use Prim.Native.Nat.{ℕ, zero, suc, _+_, _*_}
+use lib.Dec.{leb, eqb}
+use lib.ListN.{length, drop}
+use Rattle.words.specs.Rows.{rowLimit, rowAt, allZero, clearFrom}
+use Rattle.words.specs.Words.{decode}
+use Rattle.blocks.specs.Shape.{shapeFor, blockSize, fenceCount}
+use Rattle.blocks.specs.Block.{part, valueLength, updateLength, valueWords, updateWords, valueList, updateList, current}
+use Rattle.blocks.specs.Whole.{wholeLists}
+use Rattle.blocks.specs.Fences.{fenceAt}
+use Rattle.blocks.specs.declared.shape.Shape.{Shape}
+use Rattle.index.specs.declared.header.Header.{Header}
+use Rattle.index.specs.declared.header.Fence.{Fence}
+
+-- the lent words and fence records
+pub record Memory : Type 0 where
+  pub words : List ℕ
+  pub fences : List Fence
+
+-- a number from the first to the second
+abbrev pub between : ℕ → ℕ → ℕ → Bool
+between low high number = leb low number && leb number high
+
+-- R is 1 to 126,976, d 1 to 64, T 1 to 255, G 1 to 256
+unfoldable pub limits : ℕ → ℕ → ℕ → ℕ → Bool
+limits rows values threshold spacing = between 1 rowLimit rows && between 1 64 values && between 1 255 threshold && between 1 256 spacing
+
+-- and n is 0 to R
+unfoldable pub withinLimits : Header → Bool
+withinLimits header = limits (header .rows) (header .values) (header .threshold) (header .spacing) && leb (header .issued) (header .rows)
+
+-- the sizes that all values share
+abbrev pub shapeOf : Header → Shape
+shapeOf header = shapeFor (header .rows) (header .threshold) (header .spacing)
+
+-- d x B words and d x F fences are lent
+unfoldable pub lent : Header → ℕ → ℕ → Bool
+lent header words fences = leb (header .values * blockSize (shapeOf header)) words && leb (header .values * fenceCount (shapeOf header)) fences
+
+-- value v has a block of B words from v x B
+unfoldable pub blockAt : Header → List ℕ → ℕ → List ℕ
+blockAt header words value = part words (value * blockSize (shapeOf header)) (blockSize (shapeOf header))
+
+-- the rows of value v: the groups of V xor U
+unfoldable pub rowsIn : Header → List ℕ → ℕ → List ℕ
+rowsIn header words value = current (shapeOf header) (blockAt header words value)
+
+-- fence j of value v is record v x F + j
+unfoldable pub fencesAt : Header → List Fence → ℕ → List Fence
+fencesAt header fences value = part fences (value * fenceCount (shapeOf header)) (fenceCount (shapeOf header))
+
+-- each of some fences, from fence j on, is that of the list
+abbrev pub rightFences : Shape → List ℕ → ℕ → List Fence → Bool
+rightFences shape list j [] = true
+rightFences shape list j (fence ∷ fences) =
+    eqb (fence .place) (fenceAt shape list j .place) && eqb (fence .first) (fenceAt shape list j .first) && rightFences shape list (suc j) fences
+
+-- V and U are canonical for M groups with no bit at row n or above, U has at most T ones, and unused list words are zero
+unfoldable pub soundBlock : Header → List ℕ → Bool
+soundBlock header block =
+    wholeLists (shapeOf header) block
+    && clearFrom (header .issued) (decode (valueList (shapeOf header) block))
+    && clearFrom (header .issued) (decode (updateList (shapeOf header) block))
+    && allZero (drop (valueLength block) (valueWords (shapeOf header) block))
+    && allZero (drop (updateLength block) (updateWords (shapeOf header) block))
+
+-- and every fence is right
+unfoldable pub soundValue : Header → Memory → ℕ → Bool
+soundValue header memory value =
+    soundBlock header (blockAt header (memory .words) value)
+    && rightFences (shapeOf header) (valueList (shapeOf header) (blockAt header (memory .words) value)) 0 (fencesAt header (memory .fences) value)
+
+-- whether a test holds of every number below the given one
+abbrev pub every : ℕ → (ℕ → Bool) → Bool
+every zero test = true
+every (suc count) test = every count test && test count
+
+-- in how many of the first values the row has a 1 in V xor U
+abbrev pub holdersOf : Header → List ℕ → ℕ → ℕ → ℕ
+holdersOf header words row zero = 0
+holdersOf header words row (suc value) = holdersOf header words row value + rowAt (rowsIn header words value) row
+
+-- sound: the header is within its limits, every value is sound, and no row has a 1 in V xor U of two values
+unfoldable pub sound : Header → Memory → Bool
+sound header memory =
+    withinLimits header
+    && lent header (length (memory .words)) (length (memory .fences))
+    && every (header .values) (soundValue header memory)
+    && every (header .issued) (λ row. leb (holdersOf header (memory .words) row (header .values)) 1)

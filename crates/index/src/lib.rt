@@ -1,0 +1,9 @@
+// The index: a header by value, lent words and lent fence records, and the calls of document 01 over
+// them. Every call takes any header, any words and any records, and no caller has to check first.
+//
+// Below it stands `blocks`, which has everything that concerns one value. It knows nothing of histories
+// and programs.
+pub mod alter;
+pub mod entry;
+pub mod header;
+pub mod row;

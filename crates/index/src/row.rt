@@ -1,0 +1,118 @@
+// A row in all values: what the read of each value adds, and the state that comes of it.
+ghost use mathlib.Core.Path.{_≡_};
+ghost use Prim.Native.Nat.{_+_, _/_, _<_, _≤_};
+ghost use lib.ListN.{length};
+ghost use Rattle.blocks.specs.Shape.{Limits, blockSize};
+ghost use Rattle.blocks.specs.Block.{part};
+ghost use Rattle.blocks.specs.Read.{readGroup};
+ghost use Rattle.index.specs.Reading.{noRow, rowStep, valueOf, refusedValue};
+use answers::Refusal;
+use blocks::read::Reading;
+use blocks::read::read_group;
+use blocks::shape::Shape;
+use words::rows::row_of;
+
+// What the values read so far say of a row: whether a read failed, in how many values the row is, the
+// last of them, and the words opened.
+pub struct Row {
+    pub damaged: bool,
+    pub holders: u32,
+    pub value: u32,
+    pub opened: usize,
+}
+
+// A row's state: a live value, deleted, or a refusal.
+pub enum State {
+    Live(u32),
+    Deleted,
+    Refused(Refusal),
+}
+
+// What Value answers: the row's state beside the words opened, 0 when refused.
+pub struct Value {
+    pub state: State,
+    pub opened: usize,
+}
+
+// No value is read.
+pub fn no_row() -> Row
+    ensures { λ r. ⌜ r ≡ noRow ⌝ }
+{
+    Row {
+        damaged: false,
+        holders: 0,
+        value: 0,
+        opened: 0,
+    }
+}
+
+// The row in one value more, whose block is at `at` and whose fence is given by its two numbers. At
+// most 63 values are read already, and no read opens more than 767 words.
+pub fn row_step(
+    words: &[u32],
+    at: usize,
+    shape: Shape,
+    place: u32,
+    first: u32,
+    row: u32,
+    value: u32,
+    before: Row,
+) -> Row
+    requires { ⌜ Limits shape × (at + blockSize shape ≤ length (now words)) × (before .holders < 64) × (before .opened ≤ 48321) ⌝ }
+    ensures { λ r. ⌜ r ≡ rowStep row value before (readGroup shape place first (row / 31) (part (now (words .entry)) at (blockSize shape))) ⌝ }
+{
+    let Reading::Group(group, opened) = read_group(words, at, shape, place, first, row / 31) else {
+        return Row {
+            damaged: true,
+            holders: before.holders,
+            value: before.value,
+            opened: before.opened,
+        };
+    };
+    if row_of(group, (row % 31) as usize) == 0 {
+        return Row {
+            damaged: before.damaged,
+            holders: before.holders,
+            value: before.value,
+            opened: before.opened + opened,
+        };
+    }
+    Row {
+        damaged: before.damaged,
+        holders: before.holders + 1,
+        value: value,
+        opened: before.opened + opened,
+    }
+}
+
+// What Value answers for a row that is read in all values.
+pub fn value_of(row: Row) -> Value
+    ensures { λ r. ⌜ r ≡ valueOf row ⌝ }
+{
+    if row.damaged {
+        return refused(Refusal::Damaged);
+    }
+    if 1 < row.holders {
+        return refused(Refusal::Damaged);
+    }
+    if row.holders == 0 {
+        return Value {
+            state: State::Deleted,
+            opened: row.opened,
+        };
+    }
+    Value {
+        state: State::Live(row.value),
+        opened: row.opened,
+    }
+}
+
+// A refusal opens no words.
+pub fn refused(refusal: Refusal) -> Value
+    ensures { λ r. ⌜ r ≡ refusedValue refusal ⌝ }
+{
+    Value {
+        state: State::Refused(refusal),
+        opened: 0,
+    }
+}
