@@ -1,7 +1,7 @@
 // Changes of one value's block: merging, and turning a row over in U.
 ghost use mathlib.Core.Path.{_≡_};
 ghost use mathlib.Core.Bool.{true};
-ghost use mathlib.Core.List.{List, _++_};
+ghost use mathlib.Core.List.{_++_};
 ghost use Prim.Native.Nat.{_+_, _<_, _≤_};
 ghost use lib.ListN.{length, drop};
 ghost use Rattle.blocks.specs.Shape.{Limits, updateRoom, blockSize};
@@ -16,7 +16,6 @@ use crate::put::put_value;
 use crate::read::Reading;
 use crate::read::read_update;
 use crate::shape::Shape;
-use crate::shape::update_room;
 use lists::combine::xor_into;
 use lists::one_row::one_row;
 use words::rows::GROUP_LIMIT;

@@ -1,6 +1,6 @@
 // Writes one list of a block: its length and all words of its room, the unused ones with it.
 ghost use mathlib.Core.Path.{_≡_};
-ghost use Prim.Native.Nat.{_+_, _<_, _≤_};
+ghost use Prim.Native.Nat.{_+_, _≤_};
 ghost use lib.ListN.{length, take};
 ghost use Rattle.blocks.specs.Shape.{Limits, updateRoom, blockSize};
 ghost use Rattle.blocks.specs.Block.{part, write, withValue, withUpdate, padded, zeroList};
