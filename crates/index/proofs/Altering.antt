@@ -3,7 +3,7 @@
 use mathlib.Core.Path.{_≡_, refl}
 use mathlib.Core.Bool.{Bool, true, false}
 use mathlib.Core.List.{List}
-use Prim.Native.Nat.{ℕ, _*_, _<_}
+use Prim.Native.Nat.{ℕ, _+_, _*_, _<_, _≤_}
 use lib.ListN.{length}
 use Rattle.blocks.specs.Shape.{blockSize}
 use Rattle.blocks.specs.Whole.{wholeLists}
@@ -15,6 +15,10 @@ use Rattle.blocks.proofs.Parts.{length-part, length-write}
 use Rattle.blocks.proofs.Sizes.{places-apart}
 use Rattle.index.specs.Alter.{Suits, blockIn, putBlock, isWhole, mergeWords, flipWords}
 use Rattle.index.specs.declared.entry.Plan.{Plan}
+
+-- the block lies inside the words at its place as the code has it, which multiplies by `plan.block`
+pub inside : {plan : Plan} {words value : ℕ} → Suits plan words value → value * plan .block + blockSize (plan .shape) ≤ words
+inside suits = rw (suits .block) (suits .inside)
 
 -- ---- a change is made where the lists are whole, and nowhere else
 

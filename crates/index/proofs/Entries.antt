@@ -2,8 +2,7 @@
 use mathlib.Core.Path.{_≡_, refl, sym, ap}
 use mathlib.Core.Bool.{Bool, true, false, not, cond, and-eq-true-iff}
 use mathlib.Core.List.{List, [], _∷_, _++_}
-use Prim.Native.Nat.{ℕ, _+_, _*_, _<_, _≤_}
-use native.Mathlib.Omega.{arith}
+use Prim.Native.Nat.{ℕ, _*_}
 use lib.Dec.{leb}
 use lib.ListN.{length}
 use borrow.Author.Tests.{leb-true, not-false}
@@ -11,11 +10,9 @@ use Rattle.answers.specs.Outcome.{Check, _when_, outcome}
 use Rattle.answers.specs.declared.Refusal.{Refusal}
 use Rattle.answers.specs.declared.Refusal.the-variants.{BadHeader, Small, NoRow}
 use Rattle.answers.proofs.Accepted.{Passes}
-use Rattle.blocks.specs.Shape.{Limits, blockSize, fenceCount}
-use Rattle.blocks.proofs.Sizes.{place-fits}
+use Rattle.blocks.specs.Shape.{blockSize, fenceCount}
 use Rattle.index.specs.Memory.{Memory, withinLimits, shapeOf, lent}
-use Rattle.index.specs.Entry.{planOf, askedAll, enteredIndex, entered}
-use Rattle.index.specs.Alter.{Suits}
+use Rattle.index.specs.Entry.{planOf, Planned, askedAll, enteredIndex, entered}
 use Rattle.index.specs.Reading.{rowOf, refusedValue, valueOf, ValuePaper, valuePaper}
 use Rattle.index.specs.Outcomes.{After, change}
 use Rattle.index.specs.Calls.{badHeader, small, noRow, valueOutcome}
@@ -23,22 +20,16 @@ use Rattle.index.specs.declared.header.Header.{Header}
 use Rattle.index.specs.declared.entry.Plan.{Plan}
 use Rattle.index.specs.declared.entry.Entry.{Entry}
 use Rattle.index.specs.declared.entry.Entry.the-variants.{Ready, Stop}
-use Rattle.index.proofs.Headers.{Within, within, within-limits}
 use Rattle.index.proofs.Refusing.{Refuses, not-ready, same-reason, ready-passes, passes-read, stop-read}
 use Rattle.index.proofs.Refusing.{refusedChange, change-refuses, refusedOutcome, outcome-refuses}
 
 -- ---- what an entry that is ready says
 
 module _ (words fences : ℕ) (header : Header) (checks : List Check) (plan : Plan) where
-  -- the sizes are the header's, which is within its limits; the memory is lent; and the call's own checks pass
+  -- the sizes are those of a header within its limits, the memory is lent, and the call's own checks pass
   pub record Enters : Type 0 where
-    pub planned : plan ≡ planOf header
-    pub holds : withinLimits header ≡ true
-    pub numbers : Within header
-    pub limits : Limits (shapeOf header)
+    pub planned : Planned header plan words fences
     pub lends : lent header words fences ≡ true
-    pub words-lent : header .values * blockSize (shapeOf header) ≤ words
-    pub fences-lent : header .values * fenceCount (shapeOf header) ≤ fences
     pub passes : Passes checks
 
   -- THEOREM: what it says that the entry is ready
@@ -47,32 +38,20 @@ module _ (words fences : ℕ) (header : Header) (checks : List Check) (plan : Pl
   ready-enters e =
       let heads = BadHeader when not (withinLimits header) ∷ Small when not (lent header words fences) ∷ checks in
       let told = ready-passes (planOf header) plan heads e in
-      let holds = not-false (withinLimits header) (told .1 .0) in
       let lends = not-false (lent header words fences) (told .1 .1 .0) in
       let blocks = header .values * blockSize (shapeOf header) in
       let records = header .values * fenceCount (shapeOf header) in
       let both = and-eq-true-iff (leb blocks words) (leb records fences) .0 lends in
       record {
-        planned = told .0;
-        holds = holds;
-        numbers = within header holds;
-        limits = within-limits header (within header holds);
+        planned = record {
+          planned = told .0;
+          holds = not-false (withinLimits header) (told .1 .0);
+          words-lent = leb-true blocks words (both .0);
+          fences-lent = leb-true records fences (both .1);
+        };
         lends = lends;
-        words-lent = leb-true blocks words (both .0);
-        fences-lent = leb-true records fences (both .1);
         passes = told .1 .1 .1;
       }
-
-  -- the block and the fences of a value lie inside what is lent
-  module _ (enters : Enters) (value : ℕ) (below : value < header .values) where
-    pub block-inside : value * blockSize (shapeOf header) + blockSize (shapeOf header) ≤ words
-    block-inside = omega (arith, place-fits (blockSize (shapeOf header)) value (header .values) below, enters .words-lent)
-
-    pub fences-inside : value * fenceCount (shapeOf header) + fenceCount (shapeOf header) ≤ fences
-    fences-inside = omega (arith, place-fits (fenceCount (shapeOf header)) value (header .values) below, enters .fences-lent)
-
-    pub suits : Suits plan words value
-    suits = rw (enters .planned) (record { limits = enters .limits; block = refl; fences = refl; inside = block-inside })
 
 -- ---- what an entry says of the call's answer
 
@@ -145,4 +124,4 @@ module _ (header : Header) (memory : Memory) (row : ℕ) where
   unfolding valueOutcome
   ready-value plan e =
       let enters = ready-enters (length (memory .words)) (length (memory .fences)) header (noRow header memory row ∷ []) plan e in
-      rw (enters .holds, enters .lends, enters .passes .0) refl
+      rw (enters .planned .holds, enters .lends, enters .passes .0) refl

@@ -1,6 +1,12 @@
 pub mod Altering
+pub mod Bytes
+pub mod Calls
 pub mod Entries
+pub mod Flow
 pub mod Headers
+pub mod Planning
+pub mod Lend
+pub mod Local
 pub mod Refusing
 pub mod RowLaws
 pub mod ValuePapers

@@ -13,13 +13,11 @@ use Rattle.blocks.specs.Block.{write, valueList}
 use Rattle.blocks.specs.Whole.{wholeLists}
 use Rattle.blocks.specs.Change.{merged, mergeDue, flipped}
 use Rattle.blocks.specs.Column.{loaded}
-use Rattle.blocks.specs.Fences.{fenceAt}
-use Rattle.blocks.specs.declared.shape.Shape.{Shape}
+use Rattle.index.specs.Fences.{fencesFrom}
 use Rattle.index.specs.Memory.{Memory, limits, withinLimits, shapeOf, lent, blockAt, rowsIn, every, sound}
 use Rattle.index.specs.Reading.{rowOf, isDamaged, isDeleted, refusedValue, valueOf, ValuePaper, valuePaper}
 use Rattle.index.specs.Outcomes.{After, made, change}
 use Rattle.index.specs.declared.header.Header.{Header}
-use Rattle.index.specs.declared.header.Fence.{Fence}
 
 -- ---- what every call on an index asks first
 
@@ -45,11 +43,6 @@ module _ (header : Header) (memory : Memory) where
   whole value = wholeLists (shapeOf header) (blockAt header (memory .words) value)
 
 -- ---- changes of the memory
-
--- so many fences of a list from fence j on
-abbrev pub fencesFrom : Shape → List ℕ → ℕ → ℕ → List Fence
-fencesFrom shape list j zero = []
-fencesFrom shape list j (suc count) = record { place = fenceAt shape list j .place; first = fenceAt shape list j .first } ∷ fencesFrom shape list (suc j) count
 
 -- the memory with another block for value v
 unfoldable pub withBlock : Header → Memory → ℕ → List ℕ → Memory

@@ -1,7 +1,8 @@
 -- The refusals that calls begin with, 1 to 5, and the sizes that every call on an index works with.
+use mathlib.Core.Path.{_≡_}
 use mathlib.Core.Bool.{true, false, not}
 use mathlib.Core.List.{List, [], _∷_}
-use Prim.Native.Nat.{ℕ}
+use Prim.Native.Nat.{ℕ, _*_, _≤_}
 use lib.Dec.{leb}
 use Rattle.answers.specs.Outcome.{Check, _when_}
 use Rattle.answers.specs.declared.Refusal.the-variants.{BadHeader, Small, BadValue, NoRow, Full}
@@ -15,6 +16,13 @@ use Rattle.index.specs.declared.entry.Entry.the-variants.{Ready, Stop}
 -- the shape of the blocks, B and F
 abbrev pub planOf : Header → Plan
 planOf header = record { shape = shapeOf header; block = blockSize (shapeOf header); fences = fenceCount (shapeOf header) }
+
+-- a header within its limits with its sizes, for so many words and fences lent
+pub record Planned (header : Header) (plan : Plan) (words fences : ℕ) : Type 0 where
+  pub planned : plan ≡ planOf header
+  pub holds : withinLimits header ≡ true
+  pub words-lent : header .values * blockSize (shapeOf header) ≤ words
+  pub fences-lent : header .values * fenceCount (shapeOf header) ≤ fences
 
 -- one check more, behind those that an entry has passed
 abbrev pub asked : Entry → Check → Entry

@@ -1,3 +1,4 @@
+pub mod Fences
 pub mod Memory
 pub mod Entry
 pub mod Alter

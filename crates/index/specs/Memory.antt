@@ -19,6 +19,9 @@ pub record Memory : Type 0 where
   pub words : List ℕ
   pub fences : List Fence
 
+abbrev pub memoryOf : List ℕ → List Fence → Memory
+memoryOf words fences = record { words = words; fences = fences }
+
 -- a number from the first to the second
 abbrev pub between : ℕ → ℕ → ℕ → Bool
 between low high number = leb low number && leb number high

@@ -10,6 +10,7 @@ use Rattle.blocks.specs.Shape.{fenceCount}
 use Rattle.blocks.specs.Read.{readGroup}
 use Rattle.blocks.specs.declared.read.Reading.{Reading}
 use Rattle.blocks.specs.declared.read.Reading.the-variants.{Group, Broken}
+use Rattle.index.specs.Fences.{noFence}
 use Rattle.index.specs.Memory.{Memory, shapeOf, blockAt}
 use Rattle.index.specs.declared.header.Header.{Header}
 use Rattle.index.specs.declared.header.Fence.{Fence}
@@ -17,10 +18,6 @@ use Rattle.index.specs.declared.row.Row.{Row}
 use Rattle.index.specs.declared.row.State.{State}
 use Rattle.index.specs.declared.row.State.the-variants.{Live, Deleted, Refused}
 use Rattle.index.specs.declared.row.Value.{Value}
-
--- what stands for a record that is not lent
-abbrev pub noFence : Fence
-noFence = record { place = 0; first = 0 }
 
 -- fence g div G of the value, g being the row's group
 unfoldable pub fenceFor : Header → Memory → ℕ → ℕ → Fence

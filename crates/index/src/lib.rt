@@ -5,5 +5,7 @@
 // and programs.
 pub mod alter;
 pub mod entry;
+pub mod fences;
 pub mod header;
+pub mod reading;
 pub mod row;

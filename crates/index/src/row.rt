@@ -1,15 +1,15 @@
 // A row in all values: what the read of each value adds, and the state that comes of it.
 ghost use mathlib.Core.Path.{_≡_};
-ghost use Prim.Native.Nat.{_+_, _/_, _<_, _≤_};
+ghost use Prim.Native.Nat.{_/_, _<_, _≤_};
 ghost use lib.ListN.{length};
-ghost use Rattle.blocks.specs.Shape.{Limits, blockSize};
-ghost use Rattle.blocks.specs.Block.{part};
 ghost use Rattle.blocks.specs.Read.{readGroup};
+ghost use Rattle.index.specs.Alter.{Suits, blockIn};
 ghost use Rattle.index.specs.Reading.{noRow, rowStep, valueOf, refusedValue};
+use crate::entry::Plan;
+use crate::header::Fence;
 use answers::Refusal;
 use blocks::read::Reading;
 use blocks::read::read_group;
-use blocks::shape::Shape;
 use words::rows::row_of;
 
 // What the values read so far say of a row: whether a read failed, in how many values the row is, the
@@ -46,22 +46,22 @@ pub fn no_row() -> Row
     }
 }
 
-// The row in one value more, whose block is at `at` and whose fence is given by its two numbers. At
-// most 63 values are read already, and no read opens more than 767 words.
-pub fn row_step(
-    words: &[u32],
-    at: usize,
-    shape: Shape,
-    place: u32,
-    first: u32,
-    row: u32,
-    value: u32,
-    before: Row,
-) -> Row
-    requires { ⌜ Limits shape × (at + blockSize shape ≤ length (now words)) × (before .holders < 64) × (before .opened ≤ 48321) ⌝ }
-    ensures { λ r. ⌜ r ≡ rowStep row value before (readGroup shape place first (row / 31) (part (now (words .entry)) at (blockSize shape))) ⌝ }
+// The row in one value more, which is read from its fence on. At most 63 values are read already, and
+// no read opens more than 767 words.
+pub fn row_step(words: &[u32], plan: Plan, fence: Fence, row: u32, value: u32, before: Row) -> Row
+    requires { ⌜ Suits plan (length (now words)) value × (before .holders < 64) × (before .opened ≤ 48321) ⌝ }
+    ensures { λ r. ⌜ r ≡ rowStep row value before (readGroup (plan .shape) (fence .place) (fence .first) (row / 31) (blockIn plan (now (words .entry)) value)) ⌝ }
 {
-    let Reading::Group(group, opened) = read_group(words, at, shape, place, first, row / 31) else {
+    let at = value as usize * plan.block;
+    let shape = plan.shape;
+    let Reading::Group(group, opened) = read_group(
+        words,
+        at,
+        shape,
+        fence.place,
+        fence.first,
+        row / 31,
+    ) else {
         return Row {
             damaged: true,
             holders: before.holders,

@@ -20,15 +20,12 @@ use Rattle.index.specs.Alter.{Suits, blockIn, isWhole, mergeAlter, merge
 use Rattle.index.specs.declared.entry.Plan.{Plan}
 use Rattle.index.specs.declared.alter.Alter.the-variants.{Fails, Keeps, Renews}
 use Rattle.index.specs.declared.alter.Move.the-variants.{Breaks}
-use Rattle.index.proofs.Altering.{merge-put, merge-kept, flip-put, flip-kept}
+use Rattle.index.proofs.Altering.{inside, merge-put, merge-kept, flip-put, flip-kept}
 use Rattle.blocks.proofs.whole.Verdict.{faulty-whole, intact-whole, intact-ones}
 
 -- the block of a value at its place as the code has it, which multiplies by `plan.block`
 abbrev pub blockHere : Plan → List ℕ → ℕ → List ℕ
 blockHere plan words value = part words (value * plan .block) (blockSize (plan .shape))
-
-pub inside : {plan : Plan} {words value : ℕ} → Suits plan words value → value * plan .block + blockSize (plan .shape) ≤ words
-inside suits = rw (suits .block) (suits .inside)
 
 -- what the whole check finds of a value
 pub record Checked (plan : Plan) (words : List ℕ) (value : ℕ) (found : Lists) : Type 0 where

@@ -5,7 +5,8 @@ use native.Mathlib.Omega.{arith}
 use borrow.Author.Needs.{needs}
 use Rattle.index.specs.Alter.{flipAlter, flipWords}
 use Rattle.index.specs.declared.alter.Alter.the-variants.{Keeps, Renews}
-use Rattle.index.proofs.alter.Exits.{inside, Checked, flip-refused, may-flip, flip-done}
+use Rattle.index.proofs.Altering.{inside}
+use Rattle.index.proofs.alter.Exits.{Checked, flip-refused, may-flip, flip-done}
 use Rattle.index.proofs.alter.flip_value.Statement.{statement}
 use Rattle.index.proofs.alter.flip_value.Tie as tie
 

@@ -1,7 +1,8 @@
 -- `merge_value` merges the lists that the whole check finds intact, and refuses others.
 use native.Mathlib.Omega.{arith}
 use borrow.Author.Needs.{needs}
-use Rattle.index.proofs.alter.Exits.{inside, Checked, merge-refused, may-change, merge-done}
+use Rattle.index.proofs.Altering.{inside}
+use Rattle.index.proofs.alter.Exits.{Checked, merge-refused, may-change, merge-done}
 use Rattle.index.proofs.alter.merge_value.Statement.{statement}
 use Rattle.index.proofs.alter.merge_value.Tie as tie
 

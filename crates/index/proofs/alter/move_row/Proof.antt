@@ -1,7 +1,8 @@
 -- `move_row` flips the row in both values where the whole check finds the lists of both intact. The first flip leaves the second value's block as it was.
 use native.Mathlib.Omega.{arith}
 use borrow.Author.Needs.{needs}
-use Rattle.index.proofs.alter.Exits.{inside, Checked, old-refused, new-refused, is-whole, may-flip, flip-words, flip-due}
+use Rattle.index.proofs.Altering.{inside}
+use Rattle.index.proofs.alter.Exits.{Checked, old-refused, new-refused, is-whole, may-flip, flip-words, flip-due}
 use Rattle.index.proofs.alter.Halfway.{Half, still-checked, move-done}
 use Rattle.index.proofs.alter.move_row.Statement.{statement}
 use Rattle.index.proofs.alter.move_row.Tie as tie

@@ -1,7 +1,8 @@
 -- `query_value` writes the list of a value whose lists the whole check finds intact, and refuses others.
 use native.Mathlib.Omega.{arith}
 use borrow.Author.Needs.{needs}
-use Rattle.index.proofs.alter.Exits.{inside, Checked, query-refused, may-change, query-done}
+use Rattle.index.proofs.Altering.{inside}
+use Rattle.index.proofs.alter.Exits.{Checked, query-refused, may-change, query-done}
 use Rattle.index.proofs.alter.query_value.Statement.{statement}
 use Rattle.index.proofs.alter.query_value.Tie as tie
 
