@@ -146,9 +146,23 @@ write-inside {A = A} words at size from new fits h =
 
 -- ---- stores
 
-pub write-set : (words : List ℕ) (at word : ℕ) → at < length words → set words at word ≡ write words at (word ∷ [])
+pub write-set : {A : Type 0} (words : List A) (at : ℕ) (word : A) → at < length words → set words at word ≡ write words at (word ∷ [])
 unfolding write
 write-set words at word h = rw (set-split words at word h, add-one) refl
+
+-- one store more behind what was written
+pub write-more : {A : Type 0} (words : List A) (at : ℕ) (new : List A) (word : A) → at + length new < length words
+    → set (write words at new) (at + length new) word ≡ write words at (new ++ word ∷ [])
+unfolding write
+write-more words at new word h =
+    let fits : at + length new ≤ length words = omega arith in
+    let end = at + length new in
+    let front = take at words ++ new in
+    let long : length front ≡ end = length-append (take at words) new ∙ rw (length-take-le at words (omega arith)) refl in
+    let upto : take end (write words at new) ≡ front = ap (take end) (sym (append-assoc (take at words) new _)) ∙ take-at front _ end long in
+    let behind : drop (end + 1) (write words at new) ≡ drop (end + 1) words = drop-further (write words at new) words end 1 (drop-behind words at new fits) in
+    write-set (write words at new) end word (rw (length-write words at new fits) h)
+    ∙ rw (upto, behind, length-append new (word ∷ []), add-assoc at (length new) 1) (simp append-assoc)
 
 pub write-sets : (words : List ℕ) (at : ℕ) (new : List ℕ) → at + length new ≤ length words → sets words at new ≡ write words at new
 unfolding write

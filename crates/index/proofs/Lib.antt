@@ -3,6 +3,7 @@ pub mod Bytes
 pub mod Calls
 pub mod Entries
 pub mod Flow
+pub mod FenceRecords
 pub mod Headers
 pub mod Planning
 pub mod Lend

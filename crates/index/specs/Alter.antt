@@ -9,9 +9,11 @@ use Rattle.answers.specs.Outcome.{_when_, Outcome, outcome}
 use Rattle.answers.specs.declared.Refusal.the-variants.{Damaged, OutSmall}
 use Rattle.words.specs.Words.{encode}
 use Rattle.blocks.specs.Shape.{Limits, blockSize, fenceCount}
-use Rattle.blocks.specs.Block.{part, write, current}
+use Rattle.blocks.specs.Block.{part, write, valueList, current}
 use Rattle.blocks.specs.Whole.{wholeLists}
 use Rattle.blocks.specs.Change.{merged, mergeDue, flipped}
+use Rattle.index.specs.Fences.{fencesFrom}
+use Rattle.index.specs.declared.header.Fence.{Fence}
 use Rattle.index.specs.declared.entry.Plan.{Plan}
 use Rattle.index.specs.declared.alter.Alter.{Alter}
 use Rattle.index.specs.declared.alter.Alter.the-variants.{Fails, Keeps, Renews}
@@ -28,6 +30,10 @@ pub record Suits (plan : Plan) (words value : ℕ) : Type 0 where
 -- the block of a value
 abbrev pub blockIn : Plan → List ℕ → ℕ → List ℕ
 blockIn plan words value = part words (value * blockSize (plan .shape)) (blockSize (plan .shape))
+
+-- the value list of a value
+abbrev pub listIn : Plan → List ℕ → ℕ → List ℕ
+listIn plan words value = valueList (plan .shape) (blockIn plan words value)
 
 -- the words with another block for a value
 abbrev pub putBlock : Plan → List ℕ → ℕ → List ℕ → List ℕ
@@ -73,3 +79,8 @@ queryValue plan words value out =
     ∷ [])
     (encode (current (plan .shape) (blockIn plan words value)))
     out
+
+-- the fences with those of a value made anew
+unfoldable pub renewedFences : Plan → List ℕ → List Fence → ℕ → List Fence
+renewedFences plan words fences value =
+    write fences (value * fenceCount (plan .shape)) (fencesFrom (plan .shape) (listIn plan words value) 0 (fenceCount (plan .shape)))

@@ -1,6 +1,8 @@
 -- Document 01, "Memory of an index": fence records, and those of a value list.
+use mathlib.Core.Bool.{Bool, true, _&&_}
 use mathlib.Core.List.{List, [], _∷_}
 use Prim.Native.Nat.{ℕ, zero, suc}
+use lib.Dec.{eqb}
 use Rattle.blocks.specs.Fences.{cursorAt, fenceAt}
 use Rattle.blocks.specs.declared.fence.Cursor.{Cursor}
 use Rattle.blocks.specs.declared.shape.Shape.{Shape}
@@ -27,3 +29,12 @@ fencesFrom shape list j (suc count) = fenceOf (fenceAt shape list j) ∷ fencesF
 abbrev pub fenceBefore : Shape → List ℕ → ℕ → Cursor
 fenceBefore shape list zero = cursorAt 0 0
 fenceBefore shape list (suc j) = fenceAt shape list j
+
+-- whether a record is that of a cursor
+abbrev pub isFence : Cursor → Fence → Bool
+isFence cursor fence = eqb (cursor .place) (fence .place) && eqb (cursor .first) (fence .first)
+
+-- whether each of some fences, from fence j on, is that of the list
+abbrev pub rightFences : Shape → List ℕ → ℕ → List Fence → Bool
+rightFences shape list j [] = true
+rightFences shape list j (fence ∷ fences) = isFence (fenceAt shape list j) fence && rightFences shape list (suc j) fences

@@ -1,16 +1,16 @@
 -- Document 01, "Memory of an index": the header's limits, the blocks and fences of each value, and the index that is sound.
 use mathlib.Core.Bool.{Bool, true, _&&_}
-use mathlib.Core.List.{List, [], _∷_}
+use mathlib.Core.List.{List}
 use Prim.Native.Nat.{ℕ, zero, suc, _+_, _*_}
-use lib.Dec.{leb, eqb}
+use lib.Dec.{leb}
 use lib.ListN.{length, drop}
 use Rattle.words.specs.Rows.{rowLimit, rowAt, allZero, clearFrom}
 use Rattle.words.specs.Words.{decode}
 use Rattle.blocks.specs.Shape.{shapeFor, blockSize, fenceCount}
 use Rattle.blocks.specs.Block.{part, valueLength, updateLength, valueWords, updateWords, valueList, updateList, current}
 use Rattle.blocks.specs.Whole.{wholeLists}
-use Rattle.blocks.specs.Fences.{fenceAt}
 use Rattle.blocks.specs.declared.shape.Shape.{Shape}
+use Rattle.index.specs.Fences.{rightFences}
 use Rattle.index.specs.declared.header.Header.{Header}
 use Rattle.index.specs.declared.header.Fence.{Fence}
 
@@ -53,12 +53,6 @@ rowsIn header words value = current (shapeOf header) (blockAt header words value
 -- fence j of value v is record v x F + j
 unfoldable pub fencesAt : Header → List Fence → ℕ → List Fence
 fencesAt header fences value = part fences (value * fenceCount (shapeOf header)) (fenceCount (shapeOf header))
-
--- each of some fences, from fence j on, is that of the list
-abbrev pub rightFences : Shape → List ℕ → ℕ → List Fence → Bool
-rightFences shape list j [] = true
-rightFences shape list j (fence ∷ fences) =
-    eqb (fence .place) (fenceAt shape list j .place) && eqb (fence .first) (fenceAt shape list j .first) && rightFences shape list (suc j) fences
 
 -- V and U are canonical for M groups with no bit at row n or above, U has at most T ones, and unused list words are zero
 unfoldable pub soundBlock : Header → List ℕ → Bool

@@ -1,10 +1,17 @@
 // The lent fence records: a thin read and a thin write, and the two ways of going through the fences
 // of a value, which are made anew or compared. Where a fence leads is found on plain numbers.
 ghost use mathlib.Core.Path.{_≡_};
-ghost use Prim.Native.Nat.{_<_};
+ghost use Prim.Native.Nat.{_+_, _*_, _<_, _≤_};
 ghost use lib.ListN.{length, getD, set};
-ghost use Rattle.index.specs.Fences.{fence, noFence};
+ghost use Rattle.blocks.specs.Shape.{fenceCount};
+ghost use Rattle.blocks.specs.Block.{part, valueLength};
+ghost use Rattle.blocks.specs.Fences.{cursorAt, fenceAt};
+ghost use Rattle.index.specs.Alter.{Suits, blockIn, listIn, renewedFences};
+ghost use Rattle.index.specs.Fences.{fence, noFence, isFence, rightFences, fenceBefore};
+use crate::entry::Plan;
 use crate::header::Fence;
+use blocks::fence::Cursor;
+use blocks::fence::next_fence;
 
 // The record at a place; a record of zeros past the last one lent.
 pub fn fence_at(fences: &[Fence], i: usize) -> Fence
@@ -23,4 +30,69 @@ pub fn put_fence(fences: &mut [Fence], i: usize, place: u32, first: u32)
     ensures { λ _. ⌜ now (fences .exit) ≡ set (now (fences .entry)) i (fence place first) ⌝ }
 {
     fences[i] = Fence { place, first };
+}
+
+// The first word of a list.
+fn first_word() -> Cursor
+    ensures { λ r. ⌜ r ≡ cursorAt 0 0 ⌝ }
+{
+    Cursor { place: 0, first: 0 }
+}
+
+// Fence j of a value's list, found from the fence before it on.
+fn find_fence(words: &[u32], plan: Plan, value: u32, before: Cursor, j: usize) -> Cursor
+    requires { ⌜ Suits plan (length (now words)) value × (valueLength (blockIn plan (now words) value) ≤ plan .shape .groups)
+        × (j < fenceCount (plan .shape)) × (before ≡ fenceBefore (plan .shape) (listIn plan (now words) value) j) ⌝ }
+    ensures { λ r. ⌜ r ≡ fenceAt (plan .shape) (listIn plan (now (words .entry)) value) j ⌝ }
+{
+    let at = value as usize * plan.block;
+    let group = j as u32 * plan.shape.spacing;
+    let shape = plan.shape;
+    next_fence(words, at, shape, before, group)
+}
+
+// Whether a record holds what it should.
+fn is_fence(cursor: Cursor, fence: Fence) -> bool
+    ensures { λ r. ⌜ r ≡ isFence cursor fence ⌝ }
+{
+    if cursor.place != fence.place {
+        return false;
+    }
+    cursor.first == fence.first
+}
+
+// Makes the fences of a value anew, in one pass over its list.
+pub fn renew(words: &[u32], fences: &mut [Fence], plan: Plan, value: u32)
+    requires { ⌜ Suits plan (length (now words)) value × (valueLength (blockIn plan (now words) value) ≤ plan .shape .groups)
+        × (value * fenceCount (plan .shape) + fenceCount (plan .shape) ≤ length (now fences)) ⌝ }
+    ensures { λ _. ⌜ now (fences .exit) ≡ renewedFences plan (now (words .entry)) (now (fences .entry)) value ⌝ }
+{
+    let from = value as usize * plan.fences;
+    let mut cursor = first_word();
+    let mut j: usize = 0;
+    while j < plan.fences {
+        cursor = find_fence(words, plan, value, cursor, j);
+        put_fence(fences, from + j, cursor.place, cursor.first);
+        j = j + 1;
+    }
+}
+
+// Whether every fence of a value is right.
+pub fn fences_right(words: &[u32], fences: &[Fence], plan: Plan, value: u32) -> bool
+    requires { ⌜ Suits plan (length (now words)) value × (valueLength (blockIn plan (now words) value) ≤ plan .shape .groups)
+        × (value * fenceCount (plan .shape) + fenceCount (plan .shape) ≤ length (now fences)) ⌝ }
+    ensures { λ r. ⌜ r ≡ rightFences (plan .shape) (listIn plan (now (words .entry)) value) 0 (part (now (fences .entry)) (value * fenceCount (plan .shape)) (fenceCount (plan .shape))) ⌝ }
+{
+    let from = value as usize * plan.fences;
+    let mut cursor = first_word();
+    let mut j: usize = 0;
+    while j < plan.fences {
+        cursor = find_fence(words, plan, value, cursor, j);
+        let fence = fence_at(fences, from + j);
+        if !is_fence(cursor, fence) {
+            return false;
+        }
+        j = j + 1;
+    }
+    true
 }
