@@ -84,3 +84,22 @@ queryValue plan words value out =
 unfoldable pub renewedFences : Plan → List ℕ → List Fence → ℕ → List Fence
 renewedFences plan words fences value =
     write fences (value * fenceCount (plan .shape)) (fencesFrom (plan .shape) (listIn plan words value) 0 (fenceCount (plan .shape)))
+
+-- and after a flip of a row: where it merged
+unfoldable pub flipFences : Plan → List ℕ → List Fence → ℕ → ℕ → List Fence
+flipFences plan words fences value row =
+    cond (isWhole plan words value && mergeDue (plan .shape) row (blockIn plan words value))
+    (renewedFences plan (flipWords plan words value row) fences value)
+    fences
+
+-- those of a value made anew, if they are to be
+abbrev pub renewedIf : Bool → Plan → List ℕ → List Fence → ℕ → List Fence
+renewedIf due plan words fences value = cond due (renewedFences plan words fences value) fences
+
+-- and after a move of a row: in either value where it merged
+unfoldable pub moveFences : Plan → List ℕ → List Fence → ℕ → ℕ → ℕ → List Fence
+moveFences plan words fences old new row =
+    let left = moveWords plan words old new row in
+    let first = mergeDue (plan .shape) row (blockIn plan words old) in
+    let second = mergeDue (plan .shape) row (blockIn plan words new) in
+    cond (isWhole plan words old && isWhole plan words new) (renewedIf second plan left (renewedIf first plan left fences old) new) fences

@@ -100,6 +100,17 @@ module _ (rows values threshold spacing : ℕ) (column : List ℕ) where
   unfoldable pub loadAfter : Memory → After
   loadAfter memory = change (loadChecks memory) noHeader memory (made 0 loadHeader (loadedIn loadHeader column values memory))
 
+-- one row more is issued
+abbrev pub grown : Header → Header
+grown header =
+    record {
+      rows = header .rows;
+      issued = header .issued + 1;
+      values = header .values;
+      threshold = header .threshold;
+      spacing = header .spacing;
+    }
+
 module _ (header : Header) (memory : Memory) where
   -- ---- Query, Merge, Audit
 
@@ -174,20 +185,9 @@ module _ (header : Header) (memory : Memory) where
       ∷ Damaged when not (whole header memory value)
       ∷ []
 
-  -- one row more is issued
-  abbrev pub grown : Header
-  grown =
-      record {
-        rows = header .rows;
-        issued = header .issued + 1;
-        values = header .values;
-        threshold = header .threshold;
-        spacing = header .spacing;
-      }
-
   -- Insert flips row n in v; n grows by 1
   unfoldable pub insertAfter : ℕ → After
-  insertAfter value = change (insertChecks value) header memory (made (header .issued) grown (flippedIn header memory value (header .issued)))
+  insertAfter value = change (insertChecks value) header memory (made (header .issued) (grown header) (flippedIn header memory value (header .issued)))
 
   -- the value that holds a live row
   abbrev pub oldValue : ℕ → ℕ

@@ -5,6 +5,8 @@ use mathlib.Core.List.{List, [], _∷_}
 use Prim.Native.Nat.{ℕ}
 use Rattle.answers.specs.Numbers.{Paper, numberOf, paper}
 use Rattle.answers.specs.Outcome.{Check, _when_}
+use Rattle.answers.specs.declared.Answer.the-variants.{Done, Refused}
+use Rattle.answers.specs.declared.Refusal.{Refusal}
 use Rattle.index.specs.Memory.{Memory}
 use Rattle.index.specs.declared.header.Header.{Header}
 use Rattle.index.specs.declared.header.Fence.{Fence}
@@ -26,6 +28,13 @@ change [] back memory after = after
 change ((refusal when true) ∷ checks) back memory after =
     record { answer = record { number = numberOf refusal; count = 0 }; header = back; memory = memory }
 change ((refusal when false) ∷ checks) back memory after = change checks back memory after
+
+-- what a change answers: refused, with the header to go on with; or done, with a count
+abbrev pub refusedBy : Header → Refusal → Changed
+refusedBy header refusal = record { header = header; answer = Refused refusal }
+
+abbrev pub doneWith : Header → ℕ → Changed
+doneWith header count = record { header = header; answer = Done count }
 
 -- an answer with its header, and the words and fences left, are those of a change
 pub record Leaves (after : After) (changed : Changed) (words : List ℕ) (fences : List Fence) : Type 0 where

@@ -90,7 +90,7 @@ pub fn move_row(words: &mut [u32], plan: Plan, old: u32, new: u32, row: u32) -> 
 }
 
 // Writes the list of a value.
-pub fn query_value(words: &[u32], plan: Plan, value: u32, out: &mut [u32]) -> Answer
+pub fn query_value(words: &[u32], out: &mut [u32], plan: Plan, value: u32) -> Answer
     requires { ⌜ Suits plan (length (now words)) value ⌝ }
     ensures { λ r. ⌜ Gives (queryValue plan (now (words .entry)) value (now (out .entry))) r (now (out .exit)) ⌝ }
 {

@@ -1,5 +1,10 @@
 // The header of an index, its fence records, and what a change answers.
+ghost use mathlib.Core.Path.{_≡_};
+ghost use Prim.Native.Nat.{_<_};
+ghost use Rattle.index.specs.Outcomes.{refusedBy, doneWith};
+ghost use Rattle.index.specs.Calls.{grown};
 use answers::Answer;
+use answers::Refusal;
 
 // Document 01's header: row capacity R, rows issued n, values d, threshold T, fence spacing G.
 pub struct Header {
@@ -22,4 +27,41 @@ pub struct Fence {
 pub struct Changed {
     pub header: Header,
     pub answer: Answer,
+}
+
+// A change that is refused gives back the header it got.
+pub fn refuse(header: Header, refusal: Refusal) -> Changed
+    ensures { λ r. ⌜ r ≡ refusedBy header refusal ⌝ }
+{
+    Changed {
+        header: header,
+        answer: Answer::Refused(refusal),
+    }
+}
+
+// A change that is done, and gives no number back.
+pub fn done(header: Header) -> Changed
+    ensures { λ r. ⌜ r ≡ doneWith header 0 ⌝ }
+{
+    Changed {
+        header: header,
+        answer: Answer::Done(0),
+    }
+}
+
+// An insert that is done: it answers the row it gave, and n grows by 1.
+pub fn grow(header: Header) -> Changed
+    requires { ⌜ header .issued < header .rows ⌝ }
+    ensures { λ r. ⌜ r ≡ doneWith (grown header) (header .issued) ⌝ }
+{
+    Changed {
+        header: Header {
+            rows: header.rows,
+            issued: header.issued + 1,
+            values: header.values,
+            threshold: header.threshold,
+            spacing: header.spacing,
+        },
+        answer: Answer::Done(header.issued as usize),
+    }
 }

@@ -4,6 +4,7 @@
 // Below it stands `blocks`, which has everything that concerns one value. It knows nothing of histories
 // and programs.
 pub mod alter;
+pub mod answering;
 pub mod entry;
 pub mod fences;
 pub mod header;

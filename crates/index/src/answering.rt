@@ -1,0 +1,40 @@
+// The calls that change nothing: Value and Query.
+ghost use mathlib.Core.Path.{_≡_};
+ghost use Rattle.answers.specs.Outcome.{Gives};
+ghost use Rattle.index.specs.Memory.{memoryOf};
+ghost use Rattle.index.specs.Reading.{valuePaper};
+ghost use Rattle.index.specs.Calls.{valueOutcome, queryOutcome};
+use crate::alter::query_value;
+use crate::entry::Entry;
+use crate::entry::enter_row;
+use crate::entry::enter_value;
+use crate::header::Fence;
+use crate::header::Header;
+use crate::reading::read_row;
+use crate::row::Value;
+use crate::row::refused;
+use crate::row::value_of;
+use answers::Answer;
+
+// The state of a row, and the words opened to find it: at most d x (G + 2T + 1).
+pub fn value(words: &[u32], fences: &[Fence], header: Header, row: u32) -> Value
+    ensures { λ r. ⌜ valuePaper r ≡ valueOutcome header (memoryOf (now (words .entry)) (now (fences .entry))) row ⌝ }
+{
+    match enter_row(words.len(), fences.len(), header, row) {
+        Entry::Stop(refusal) => refused(refusal),
+        Entry::Ready(plan) => {
+            let found = read_row(words, fences, header, plan, row);
+            value_of(found)
+        }
+    }
+}
+
+// Writes the canonical list of V xor U of a value; answers the number of words.
+pub fn query(words: &[u32], fences: &[Fence], out: &mut [u32], header: Header, value: u32) -> Answer
+    ensures { λ r. ⌜ Gives (queryOutcome header (memoryOf (now (words .entry)) (now (fences .entry))) value (now (out .entry))) r (now (out .exit)) ⌝ }
+{
+    match enter_value(words.len(), fences.len(), header, value) {
+        Entry::Stop(refusal) => Answer::Refused(refusal),
+        Entry::Ready(plan) => query_value(words, out, plan, value),
+    }
+}
