@@ -51,6 +51,9 @@ mut-ended R₀ Q ss ks = record { signature = record { lifetimes = 1; outlives =
 abbrev pub shr-ended : (R₀ Q : RattleType) (ss : List (Slot 1)) → Kepts ss → Ended
 shr-ended R₀ Q ss ks = record { signature = record { lifetimes = 1; outlives = []; params = shrSliceOf (0 ∷ []) tt (plain (λ _. R₀)) ∷ ss; result = plain (λ _. Q) }; kept = (yes, ks) }
 
+abbrev pub mut-mut-ended : (R₀ R₁ Q : RattleType) (ss : List (Slot 2)) → Kepts ss → Ended
+mut-mut-ended R₀ R₁ Q ss ks = record { signature = record { lifetimes = 2; outlives = []; params = mutSliceOf (0 ∷ []) tt (plain (λ _. R₀)) ∷ mutSliceOf (1 ∷ []) tt (plain (λ _. R₁)) ∷ ss; result = plain (λ _. Q) }; kept = (yes, (yes, ks)) }
+
 abbrev pub shr-shr-ended : (R₀ R₁ Q : RattleType) (ss : List (Slot 2)) → Kepts ss → Ended
 shr-shr-ended R₀ R₁ Q ss ks = record { signature = record { lifetimes = 2; outlives = []; params = shrSliceOf (0 ∷ []) tt (plain (λ _. R₀)) ∷ shrSliceOf (1 ∷ []) tt (plain (λ _. R₁)) ∷ ss; result = plain (λ _. Q) }; kept = (yes, (yes, ks)) }
 
@@ -184,6 +187,40 @@ module _ {M : Type 1} {𝓤 : URA M} {H : Heap 𝓤} {A : Atoms 𝓤} {K : Type 
           qed W (‵ (fsep (flft (κs .0) fullShare) (ShrSlice (named 0) (κs .0) R₀ .own (ref b₀ o₀ δ₀ ys₀) (sliceVal (b₀, o₀) n₀ ∷ []))) ∷ []) ∵ fsplit ! $
           use0 W (raw (c κs (ref b₀ o₀ δ₀ ys₀, a κs) .requires (g κs δ₀))) (req κs δ₀) $ use0 W (‵ (owns (typesAt ss κs) (a κs) (vss κs))) (own κs) $ move ! (3 ∷ 0 ∷ []) $ fjoin ! $ nothing ! $ move ! (3 ∷ 0 ∷ []) $ join ! $ join ! $ frame ! $ done !
 
+  pub calls-mut-mut : K → FmC 𝓤 H (W .laws) C → (R₀ R₁ Q : RattleType) (ss : List (Slot 2)) (ks : Kepts ss) (c : Clauses 𝓤 (mut-mut-ended R₀ R₁ Q ss ks)) → Triple 𝓤 (C f) (contractOf 𝓤 H A (mut-mut-ended R₀ R₁ Q ss ks) c)
+      → {κ₀ : Lft} {q₀ : Share} (b₀ o₀ : ℕ) (γ₀ : GName) (ys₀ : List (R₀ .Denot)) (n₀ : ℕ) → length ys₀ ≡ n₀
+      → {κ₁ : Lft} {q₁ : Share} (b₁ o₁ : ℕ) (γ₁ : GName) (ys₁ : List (R₁ .Denot)) (n₁ : ℕ) → length ys₁ ≡ n₁
+      → (a : (κs : Lfts 2) → Denots (typesAt ss κs)) (vss : (κs : Lfts 2) → Valss (typesAt ss κs)) → ((κs : Lfts 2) → ent 𝓤 (emp 𝓤) (sem 𝓤 H A (owns (typesAt ss κs) (a κs) (vss κs))))
+      → (g : (κs : Lfts 2) (δ₀ δ₁ : GName) → c κs (ref b₀ o₀ δ₀ ys₀, (ref b₁ o₁ δ₁ ys₁, a κs)) .ghost) → ((κs : Lfts 2) (δ₀ δ₁ : GName) → ent 𝓤 (emp 𝓤) (c κs (ref b₀ o₀ δ₀ ys₀, (ref b₁ o₁ δ₁ ys₁, a κs)) .requires (g κs δ₀ δ₁)))
+      → (ψ : Q .Denot → List (R₀ .Denot) → List (R₁ .Denot) → Type 0) → ((κs : Lfts 2) (δ₀ δ₁ : GName) (r : Q .Denot) (ws : Lasts (mut-mut-ended R₀ R₁ Q ss ks) κs (ref b₀ o₀ δ₀ ys₀, (ref b₁ o₁ δ₁ ys₁, a κs))) → ent 𝓤 (c κs (ref b₀ o₀ δ₀ ys₀, (ref b₁ o₁ δ₁ ys₁, a κs)) .ensures (g κs δ₀ δ₁) r (atExit (mut-mut-ended R₀ R₁ Q ss ks) κs (ref b₀ o₀ δ₀ ys₀, (ref b₁ o₁ δ₁ ys₁, a κs)) ws)) (fact 𝓤 (ψ r (ws .0) (ws .1 .0))))
+      → ((κs : Lfts 2) (δ₀ δ₁ : GName) → Opds K W (raw (contractOf 𝓤 H A (mut-mut-ended R₀ R₁ Q ss ks) c .pre ((κs, (fullShare, (fullShare, tt)), tt, (ref b₀ o₀ δ₀ ys₀, (ref b₁ o₁ δ₁ ys₁, a κs)), (sliceVal (b₀, o₀) n₀ ∷ [], (sliceVal (b₁, o₁) n₁ ∷ [], vss κs))), g κs δ₀ δ₁)) ∷ ‵ ftrue ∷ ‵ (LentAgain R₀ κ₀ (κs .0) q₀ γ₀ b₀ o₀ δ₀ ys₀) ∷ ‵ (LentAgain R₁ κ₁ (κs .1 .0) q₁ γ₁ b₁ o₁ δ₁ ys₁) ∷ Γ) E xs (sliceVal (b₀, o₀) n₀ ∷ sliceVal (b₁, o₁) n₁ ∷ flat (typesAt ss κs) (vss κs)))
+      → ((u : Val) (r : Q .Denot) (zs₀ : List (R₀ .Denot)) (zs₁ : List (R₁ .Denot)) → length zs₀ ≡ n₀ → length zs₁ ≡ n₁ → ψ r zs₀ zs₁ → Is Q r (u ∷ []) → Seq K W (‵ (flft κ₀ q₀) ∷ ‵ (MutSlice (named 0) κ₀ R₀ .own (ref b₀ o₀ γ₀ zs₀) (sliceVal (b₀, o₀) n₀ ∷ [])) ∷ ‵ (flft κ₁ q₁) ∷ ‵ (MutSlice (named 0) κ₁ R₁ .own (ref b₁ o₁ γ₁ zs₁) (sliceVal (b₁, o₁) n₁ ∷ [])) ∷ Γ) (lands C Λ E d u rest p))
+      → Seq K W (‵ (flft κ₀ q₀) ∷ ‵ (MutSlice (named 0) κ₀ R₀ .own (ref b₀ o₀ γ₀ ys₀) (sliceVal (b₀, o₀) n₀ ∷ [])) ∷ ‵ (flft κ₁ q₁) ∷ ‵ (MutSlice (named 0) κ₁ R₁ .own (ref b₁ o₁ γ₁ ys₁) (sliceVal (b₁, o₁) n₁ ∷ [])) ∷ Γ) (runs C Λ E (seq (call f xs d) rest) p)
+  calls-mut-mut t fm R₀ R₁ Q ss ks c known {κ₀} {q₀} b₀ o₀ γ₀ ys₀ n₀ en₀ {κ₁} {q₁} b₁ o₁ γ₁ ys₁ n₁ en₁ a vss own g req ψ ens os k =
+      lend-mut t tt R₀ b₀ o₀ γ₀ ys₀ n₀ en₀ (λ ν₀ δ₀ room₀.
+      move t (3 ∷ 4 ∷ []) $ lend-mut t tt R₁ b₁ o₁ γ₁ ys₁ n₁ en₁ (λ ν₁ δ₁ room₁.
+      move t (1 ∷ 4 ∷ 0 ∷ 3 ∷ []) $ move t (1 ∷ 0 ∷ []) $ fjoin t $ move t (1 ∷ 0 ∷ []) $ fjoin t $ move t (1 ∷ 0 ∷ []) $ fjoin t $ use1 W (raw (pre (ν₀ ∷ [], (ν₁ ∷ [], tt)) δ₀ δ₁)) (goes (ν₀ ∷ [], (ν₁ ∷ [], tt)) δ₀ δ₁) $ nothing t $ move t (1 ∷ 0 ∷ 3 ∷ 2 ∷ []) $
+      calls-at t fm (contractOf 𝓤 H A (mut-mut-ended R₀ R₁ Q ss ks) c) known (y (ν₀ ∷ [], (ν₁ ∷ [], tt)) δ₀ δ₁) (os (ν₀ ∷ [], (ν₁ ∷ [], tt)) δ₀ δ₁) (λ u.
+      use1 W (later (some (λ (r : Q .Denot). ((‵ (flft (ν₀ ∷ []) fullShare) ⊛ (‵ (flft (ν₁ ∷ []) fullShare) ⊛ ‵ ftrue)) ⊛ ‵ (Q .own r (u ∷ []))) ⊛ raw (ensured 𝓤 H A (mut-mut-ended R₀ R₁ Q ss ks) c (ν₀ ∷ [], (ν₁ ∷ [], tt)) (args (ν₀ ∷ [], (ν₁ ∷ [], tt)) δ₀ δ₁) (g (ν₀ ∷ [], (ν₁ ∷ [], tt)) δ₀ δ₁) r)))) (id⊢ 𝓤 _) $ await t tt $ pick t (λ r. split t $ move t (1 ∷ []) $
+      use1 W (some (λ (ws : Lasts (mut-mut-ended R₀ R₁ Q ss ks) (ν₀ ∷ [], (ν₁ ∷ [], tt)) (args (ν₀ ∷ [], (ν₁ ∷ [], tt)) δ₀ δ₁)). ‵ (lasts (mut-mut-ended R₀ R₁ Q ss ks) (ν₀ ∷ [], (ν₁ ∷ [], tt)) (args (ν₀ ∷ [], (ν₁ ∷ [], tt)) δ₀ δ₁) ws) ⊛ raw (c (ν₀ ∷ [], (ν₁ ∷ [], tt)) (args (ν₀ ∷ [], (ν₁ ∷ [], tt)) δ₀ δ₁) .ensures (g (ν₀ ∷ [], (ν₁ ∷ [], tt)) δ₀ δ₁) r (atExit (mut-mut-ended R₀ R₁ Q ss ks) (ν₀ ∷ [], (ν₁ ∷ [], tt)) (args (ν₀ ∷ [], (ν₁ ∷ [], tt)) δ₀ δ₁) ws)))) (id⊢ 𝓤 _) $ pick t (λ ws. split t $ move t (1 ∷ []) $
+      use1 W (raw (fact 𝓤 (ψ r (ws .0) (ws .1 .0)))) (ens (ν₀ ∷ [], (ν₁ ∷ [], tt)) δ₀ δ₁ r ws) $ heard t (ψ r (ws .0) (ws .1 .0)) (λ e.
+      fsplit t $ fsplit t $ move t (1 ∷ []) $ feqL t (λ l₀. move t (1 ∷ []) $ fsplit t $ fsplit t $ move t (1 ∷ []) $ feqL t (λ l₁. move t (1 ∷ []) $ drop t $ move t (2 ∷ []) $ split t $ move t (1 ∷ []) $ peeks t Q (Is Q) (shows 𝓤 H A Q) r (u ∷ []) (λ is. drop t $ split t $ move t (1 ∷ []) $ split t $ move t (1 ∷ []) $ drop t $
+      move t (1 ∷ 5 ∷ 3 ∷ []) $ back-mut t tt R₀ b₀ o₀ γ₀ ys₀ n₀ en₀ ν₀ δ₀ room₀ (ws .0) l₀ (move t (2 ∷ 5 ∷ 3 ∷ []) $ back-mut t tt R₁ b₁ o₁ γ₁ ys₁ n₁ en₁ ν₁ δ₁ room₁ (ws .1 .0) l₁ (move t (4 ∷ []) $ drop t $ move t (2 ∷ 3 ∷ 0 ∷ 1 ∷ []) $ k u r (ws .0) (ws .1 .0) (l₀ ∙ en₀) (l₁ ∙ en₁) e is)))))))))))
+    where
+      args : (κs : Lfts 2) (δ₀ δ₁ : GName) → Args ((mut-mut-ended R₀ R₁ Q ss ks) .signature) κs
+      args κs δ₀ δ₁ = (ref b₀ o₀ δ₀ ys₀, (ref b₁ o₁ δ₁ ys₁, a κs))
+
+      y : (κs : Lfts 2) (δ₀ δ₁ : GName) → contractOf 𝓤 H A (mut-mut-ended R₀ R₁ Q ss ks) c .Ghost
+      y κs δ₀ δ₁ = ((κs, (fullShare, (fullShare, tt)), tt, (ref b₀ o₀ δ₀ ys₀, (ref b₁ o₁ δ₁ ys₁, a κs)), (sliceVal (b₀, o₀) n₀ ∷ [], (sliceVal (b₁, o₁) n₁ ∷ [], vss κs))), g κs δ₀ δ₁)
+
+      pre : (κs : Lfts 2) (δ₀ δ₁ : GName) → SProp 𝓤
+      pre κs δ₀ δ₁ = contractOf 𝓤 H A (mut-mut-ended R₀ R₁ Q ss ks) c .pre (y κs δ₀ δ₁)
+
+      goes : (κs : Lfts 2) (δ₀ δ₁ : GName) → ent 𝓤 (sem 𝓤 H A (fsep (flft (κs .0) fullShare) (fsep (flft (κs .1 .0) fullShare) (fsep (MutSlice (named 0) (κs .0) R₀ .own (ref b₀ o₀ δ₀ ys₀) (sliceVal (b₀, o₀) n₀ ∷ [])) (MutSlice (named 0) (κs .1 .0) R₁ .own (ref b₁ o₁ δ₁ ys₁) (sliceVal (b₁, o₁) n₁ ∷ [])))))) (pre κs δ₀ δ₁)
+      goes κs δ₀ δ₁ =
+          qed W (‵ (fsep (flft (κs .0) fullShare) (fsep (flft (κs .1 .0) fullShare) (fsep (MutSlice (named 0) (κs .0) R₀ .own (ref b₀ o₀ δ₀ ys₀) (sliceVal (b₀, o₀) n₀ ∷ [])) (MutSlice (named 0) (κs .1 .0) R₁ .own (ref b₁ o₁ δ₁ ys₁) (sliceVal (b₁, o₁) n₁ ∷ []))))) ∷ []) ∵ fsplit ! $ move ! (1 ∷ []) $ fsplit ! $ move ! (1 ∷ []) $ fsplit ! $
+          use0 W (raw (c κs (ref b₀ o₀ δ₀ ys₀, (ref b₁ o₁ δ₁ ys₁, a κs)) .requires (g κs δ₀ δ₁))) (req κs δ₀ δ₁) $ use0 W (‵ (owns (typesAt ss κs) (a κs) (vss κs))) (own κs) $ move ! (3 ∷ 0 ∷ []) $ fjoin ! $ move ! (2 ∷ 0 ∷ []) $ fjoin ! $ nothing ! $ move ! (3 ∷ 0 ∷ []) $ join ! $ move ! (3 ∷ 0 ∷ []) $ join ! $ join ! $ frame ! $ done !
+
   pub calls-shr-shr : K → FmC 𝓤 H (W .laws) C → (R₀ R₁ Q : RattleType) (ss : List (Slot 2)) (ks : Kepts ss) (c : Clauses 𝓤 (shr-shr-ended R₀ R₁ Q ss ks)) → Triple 𝓤 (C f) (contractOf 𝓤 H A (shr-shr-ended R₀ R₁ Q ss ks) c)
       → {κ₀ : Lft} {q₀ : Share} (b₀ o₀ : ℕ) (γ₀ : GName) (ys₀ : List (R₀ .Denot)) (n₀ : ℕ) → length ys₀ ≡ n₀
       → {κ₁ : Lft} {q₁ : Share} (b₁ o₁ : ℕ) (γ₁ : GName) (ys₁ : List (R₁ .Denot)) (n₁ : ℕ) → length ys₁ ≡ n₁
@@ -250,6 +287,40 @@ module _ {M : Type 1} {𝓤 : URA M} {H : Heap 𝓤} {A : Atoms 𝓤} {K : Type 
       goes : (κs : Lfts 2) (δ₀ δ₁ : GName) → ent 𝓤 (sem 𝓤 H A (fsep (flft (κs .0) fullShare) (fsep (flft (κs .1 .0) fullShare) (fsep (ShrSlice (named 0) (κs .0) R₀ .own (ref b₀ o₀ δ₀ ys₀) (sliceVal (b₀, o₀) n₀ ∷ [])) (MutSlice (named 0) (κs .1 .0) R₁ .own (ref b₁ o₁ δ₁ ys₁) (sliceVal (b₁, o₁) n₁ ∷ [])))))) (pre κs δ₀ δ₁)
       goes κs δ₀ δ₁ =
           qed W (‵ (fsep (flft (κs .0) fullShare) (fsep (flft (κs .1 .0) fullShare) (fsep (ShrSlice (named 0) (κs .0) R₀ .own (ref b₀ o₀ δ₀ ys₀) (sliceVal (b₀, o₀) n₀ ∷ [])) (MutSlice (named 0) (κs .1 .0) R₁ .own (ref b₁ o₁ δ₁ ys₁) (sliceVal (b₁, o₁) n₁ ∷ []))))) ∷ []) ∵ fsplit ! $ move ! (1 ∷ []) $ fsplit ! $ move ! (1 ∷ []) $ fsplit ! $
+          use0 W (raw (c κs (ref b₀ o₀ δ₀ ys₀, (ref b₁ o₁ δ₁ ys₁, a κs)) .requires (g κs δ₀ δ₁))) (req κs δ₀ δ₁) $ use0 W (‵ (owns (typesAt ss κs) (a κs) (vss κs))) (own κs) $ move ! (3 ∷ 0 ∷ []) $ fjoin ! $ move ! (2 ∷ 0 ∷ []) $ fjoin ! $ nothing ! $ move ! (3 ∷ 0 ∷ []) $ join ! $ move ! (3 ∷ 0 ∷ []) $ join ! $ join ! $ frame ! $ done !
+
+  pub calls-view-view : K → FmC 𝓤 H (W .laws) C → (R₀ R₁ Q : RattleType) (ss : List (Slot 2)) (ks : Kepts ss) (c : Clauses 𝓤 (shr-shr-ended R₀ R₁ Q ss ks)) → Triple 𝓤 (C f) (contractOf 𝓤 H A (shr-shr-ended R₀ R₁ Q ss ks) c)
+      → {κ₀ : Lft} {q₀ : Share} (b₀ o₀ : ℕ) (γ₀ : GName) (ys₀ : List (R₀ .Denot)) (n₀ : ℕ) → length ys₀ ≡ n₀
+      → {κ₁ : Lft} {q₁ : Share} (b₁ o₁ : ℕ) (γ₁ : GName) (ys₁ : List (R₁ .Denot)) (n₁ : ℕ) → length ys₁ ≡ n₁
+      → (a : (κs : Lfts 2) → Denots (typesAt ss κs)) (vss : (κs : Lfts 2) → Valss (typesAt ss κs)) → ((κs : Lfts 2) → ent 𝓤 (emp 𝓤) (sem 𝓤 H A (owns (typesAt ss κs) (a κs) (vss κs))))
+      → (g : (κs : Lfts 2) (δ₀ δ₁ : GName) → c κs (ref b₀ o₀ δ₀ ys₀, (ref b₁ o₁ δ₁ ys₁, a κs)) .ghost) → ((κs : Lfts 2) (δ₀ δ₁ : GName) → ent 𝓤 (emp 𝓤) (c κs (ref b₀ o₀ δ₀ ys₀, (ref b₁ o₁ δ₁ ys₁, a κs)) .requires (g κs δ₀ δ₁)))
+      → (ψ : Q .Denot → Type 0) → ((κs : Lfts 2) (δ₀ δ₁ : GName) (r : Q .Denot) (ws : Lasts (shr-shr-ended R₀ R₁ Q ss ks) κs (ref b₀ o₀ δ₀ ys₀, (ref b₁ o₁ δ₁ ys₁, a κs))) → ent 𝓤 (c κs (ref b₀ o₀ δ₀ ys₀, (ref b₁ o₁ δ₁ ys₁, a κs)) .ensures (g κs δ₀ δ₁) r (atExit (shr-shr-ended R₀ R₁ Q ss ks) κs (ref b₀ o₀ δ₀ ys₀, (ref b₁ o₁ δ₁ ys₁, a κs)) ws)) (fact 𝓤 (ψ r)))
+      → ((κs : Lfts 2) (δ₀ δ₁ : GName) → Opds K W (raw (contractOf 𝓤 H A (shr-shr-ended R₀ R₁ Q ss ks) c .pre ((κs, (fullShare, (fullShare, tt)), tt, (ref b₀ o₀ δ₀ ys₀, (ref b₁ o₁ δ₁ ys₁, a κs)), (sliceVal (b₀, o₀) n₀ ∷ [], (sliceVal (b₁, o₁) n₁ ∷ [], vss κs))), g κs δ₀ δ₁)) ∷ ‵ ftrue ∷ ‵ (Viewed R₀ κ₀ (κs .0) q₀ γ₀ b₀ o₀ ys₀) ∷ ‵ (Viewed R₁ κ₁ (κs .1 .0) q₁ γ₁ b₁ o₁ ys₁) ∷ Γ) E xs (sliceVal (b₀, o₀) n₀ ∷ sliceVal (b₁, o₁) n₁ ∷ flat (typesAt ss κs) (vss κs)))
+      → ((u : Val) (r : Q .Denot) → ψ r → Is Q r (u ∷ []) → Seq K W (‵ (flft κ₀ q₀) ∷ ‵ (MutSlice (named 0) κ₀ R₀ .own (ref b₀ o₀ γ₀ ys₀) (sliceVal (b₀, o₀) n₀ ∷ [])) ∷ ‵ (flft κ₁ q₁) ∷ ‵ (MutSlice (named 0) κ₁ R₁ .own (ref b₁ o₁ γ₁ ys₁) (sliceVal (b₁, o₁) n₁ ∷ [])) ∷ Γ) (lands C Λ E d u rest p))
+      → Seq K W (‵ (flft κ₀ q₀) ∷ ‵ (MutSlice (named 0) κ₀ R₀ .own (ref b₀ o₀ γ₀ ys₀) (sliceVal (b₀, o₀) n₀ ∷ [])) ∷ ‵ (flft κ₁ q₁) ∷ ‵ (MutSlice (named 0) κ₁ R₁ .own (ref b₁ o₁ γ₁ ys₁) (sliceVal (b₁, o₁) n₁ ∷ [])) ∷ Γ) (runs C Λ E (seq (call f xs d) rest) p)
+  calls-view-view t fm R₀ R₁ Q ss ks c known {κ₀} {q₀} b₀ o₀ γ₀ ys₀ n₀ en₀ {κ₁} {q₁} b₁ o₁ γ₁ ys₁ n₁ en₁ a vss own g req ψ ens os k =
+      lend-view t tt R₀ b₀ o₀ γ₀ ys₀ n₀ en₀ (λ ν₀ δ₀ room₀.
+      move t (3 ∷ 4 ∷ []) $ lend-view t tt R₁ b₁ o₁ γ₁ ys₁ n₁ en₁ (λ ν₁ δ₁ room₁.
+      move t (1 ∷ 4 ∷ 0 ∷ 3 ∷ []) $ move t (1 ∷ 0 ∷ []) $ fjoin t $ move t (1 ∷ 0 ∷ []) $ fjoin t $ move t (1 ∷ 0 ∷ []) $ fjoin t $ use1 W (raw (pre (ν₀ ∷ [], (ν₁ ∷ [], tt)) δ₀ δ₁)) (goes (ν₀ ∷ [], (ν₁ ∷ [], tt)) δ₀ δ₁) $ nothing t $ move t (1 ∷ 0 ∷ 3 ∷ 2 ∷ []) $
+      calls-at t fm (contractOf 𝓤 H A (shr-shr-ended R₀ R₁ Q ss ks) c) known (y (ν₀ ∷ [], (ν₁ ∷ [], tt)) δ₀ δ₁) (os (ν₀ ∷ [], (ν₁ ∷ [], tt)) δ₀ δ₁) (λ u.
+      use1 W (later (some (λ (r : Q .Denot). ((‵ (flft (ν₀ ∷ []) fullShare) ⊛ (‵ (flft (ν₁ ∷ []) fullShare) ⊛ ‵ ftrue)) ⊛ ‵ (Q .own r (u ∷ []))) ⊛ raw (ensured 𝓤 H A (shr-shr-ended R₀ R₁ Q ss ks) c (ν₀ ∷ [], (ν₁ ∷ [], tt)) (args (ν₀ ∷ [], (ν₁ ∷ [], tt)) δ₀ δ₁) (g (ν₀ ∷ [], (ν₁ ∷ [], tt)) δ₀ δ₁) r)))) (id⊢ 𝓤 _) $ await t tt $ pick t (λ r. split t $ move t (1 ∷ []) $
+      use1 W (some (λ (ws : Lasts (shr-shr-ended R₀ R₁ Q ss ks) (ν₀ ∷ [], (ν₁ ∷ [], tt)) (args (ν₀ ∷ [], (ν₁ ∷ [], tt)) δ₀ δ₁)). ‵ (lasts (shr-shr-ended R₀ R₁ Q ss ks) (ν₀ ∷ [], (ν₁ ∷ [], tt)) (args (ν₀ ∷ [], (ν₁ ∷ [], tt)) δ₀ δ₁) ws) ⊛ raw (c (ν₀ ∷ [], (ν₁ ∷ [], tt)) (args (ν₀ ∷ [], (ν₁ ∷ [], tt)) δ₀ δ₁) .ensures (g (ν₀ ∷ [], (ν₁ ∷ [], tt)) δ₀ δ₁) r (atExit (shr-shr-ended R₀ R₁ Q ss ks) (ν₀ ∷ [], (ν₁ ∷ [], tt)) (args (ν₀ ∷ [], (ν₁ ∷ [], tt)) δ₀ δ₁) ws)))) (id⊢ 𝓤 _) $ pick t (λ ws. split t $ move t (1 ∷ []) $
+      use1 W (raw (fact 𝓤 (ψ r))) (ens (ν₀ ∷ [], (ν₁ ∷ [], tt)) δ₀ δ₁ r ws) $ heard t (ψ r) (λ e.
+      fsplit t $ drop t $ fsplit t $ drop t $ drop t $ split t $ move t (1 ∷ []) $ peeks t Q (Is Q) (shows 𝓤 H A Q) r (u ∷ []) (λ is. drop t $ split t $ move t (1 ∷ []) $ split t $ move t (1 ∷ []) $ drop t $
+      move t (1 ∷ 3 ∷ []) $ back-view t tt R₀ b₀ o₀ γ₀ ys₀ n₀ en₀ ν₀ room₀ (move t (2 ∷ 4 ∷ []) $ back-view t tt R₁ b₁ o₁ γ₁ ys₁ n₁ en₁ ν₁ room₁ (move t (4 ∷ []) $ drop t $ move t (2 ∷ 3 ∷ 0 ∷ 1 ∷ []) $ k u r e is)))))))))
+    where
+      args : (κs : Lfts 2) (δ₀ δ₁ : GName) → Args ((shr-shr-ended R₀ R₁ Q ss ks) .signature) κs
+      args κs δ₀ δ₁ = (ref b₀ o₀ δ₀ ys₀, (ref b₁ o₁ δ₁ ys₁, a κs))
+
+      y : (κs : Lfts 2) (δ₀ δ₁ : GName) → contractOf 𝓤 H A (shr-shr-ended R₀ R₁ Q ss ks) c .Ghost
+      y κs δ₀ δ₁ = ((κs, (fullShare, (fullShare, tt)), tt, (ref b₀ o₀ δ₀ ys₀, (ref b₁ o₁ δ₁ ys₁, a κs)), (sliceVal (b₀, o₀) n₀ ∷ [], (sliceVal (b₁, o₁) n₁ ∷ [], vss κs))), g κs δ₀ δ₁)
+
+      pre : (κs : Lfts 2) (δ₀ δ₁ : GName) → SProp 𝓤
+      pre κs δ₀ δ₁ = contractOf 𝓤 H A (shr-shr-ended R₀ R₁ Q ss ks) c .pre (y κs δ₀ δ₁)
+
+      goes : (κs : Lfts 2) (δ₀ δ₁ : GName) → ent 𝓤 (sem 𝓤 H A (fsep (flft (κs .0) fullShare) (fsep (flft (κs .1 .0) fullShare) (fsep (ShrSlice (named 0) (κs .0) R₀ .own (ref b₀ o₀ δ₀ ys₀) (sliceVal (b₀, o₀) n₀ ∷ [])) (ShrSlice (named 0) (κs .1 .0) R₁ .own (ref b₁ o₁ δ₁ ys₁) (sliceVal (b₁, o₁) n₁ ∷ [])))))) (pre κs δ₀ δ₁)
+      goes κs δ₀ δ₁ =
+          qed W (‵ (fsep (flft (κs .0) fullShare) (fsep (flft (κs .1 .0) fullShare) (fsep (ShrSlice (named 0) (κs .0) R₀ .own (ref b₀ o₀ δ₀ ys₀) (sliceVal (b₀, o₀) n₀ ∷ [])) (ShrSlice (named 0) (κs .1 .0) R₁ .own (ref b₁ o₁ δ₁ ys₁) (sliceVal (b₁, o₁) n₁ ∷ []))))) ∷ []) ∵ fsplit ! $ move ! (1 ∷ []) $ fsplit ! $ move ! (1 ∷ []) $ fsplit ! $
           use0 W (raw (c κs (ref b₀ o₀ δ₀ ys₀, (ref b₁ o₁ δ₁ ys₁, a κs)) .requires (g κs δ₀ δ₁))) (req κs δ₀ δ₁) $ use0 W (‵ (owns (typesAt ss κs) (a κs) (vss κs))) (own κs) $ move ! (3 ∷ 0 ∷ []) $ fjoin ! $ move ! (2 ∷ 0 ∷ []) $ fjoin ! $ nothing ! $ move ! (3 ∷ 0 ∷ []) $ join ! $ move ! (3 ∷ 0 ∷ []) $ join ! $ join ! $ frame ! $ done !
 
 module _ {M : Type 1} {𝓤 : URA M} {H : Heap 𝓤} {A : Atoms 𝓤} {K : Type 0} {W : Given 𝓤 H A} {Γ : List (Item 𝓤)} {E : Env 𝓤 H} {C : Calls 𝓤 H} {f : Name} {xs : List Operand} {Λ : Loops 𝓤 H} {p : Post 𝓤 H} {d : Place} where

@@ -2,12 +2,15 @@ pub mod Altering
 pub mod Bytes
 pub mod Calls
 pub mod Entries
-pub mod Flow
+pub mod Every
 pub mod FenceRecords
+pub mod Flow
 pub mod Headers
-pub mod Planning
+pub mod Holders
 pub mod Lend
 pub mod Local
+pub mod MemoryLeft
+pub mod Planning
 pub mod Refusing
 pub mod RowLaws
 pub mod ValuePapers

@@ -7,7 +7,7 @@ use Rattle.blocks.specs.Shape.{Limits, blockSize, fenceCount}
 use Rattle.blocks.proofs.Sizes.{place-fits, few-groups, few-fences}
 use Rattle.index.specs.Memory.{shapeOf}
 use Rattle.index.specs.Entry.{planOf, Planned}
-use Rattle.index.specs.Alter.{Suits}
+use Rattle.index.specs.Alter.{Suits, Fenced}
 use Rattle.index.specs.declared.header.Header.{Header}
 use Rattle.index.specs.declared.entry.Plan.{Plan}
 use Rattle.index.proofs.Headers.{Within, within, within-limits}
@@ -38,10 +38,13 @@ module _ {header : Header} {plan : Plan} {words fences : ℕ} (is : Planned head
           inside = omega (arith, place-fits (blockSize (shapeOf header)) value (header .values) below, is .words-lent);
         })
 
-    -- the fences of a value lie inside the records lent
-    pub fences-inside : value * plan .fences + plan .fences ≤ fences
-    fences-inside =
-        rw (is .planned) (omega (arith, place-fits (fenceCount (shapeOf header)) value (header .values) below, is .fences-lent))
+    -- and its fences inside the records lent
+    pub fenced : Fenced plan words fences value
+    fenced =
+        record {
+          suits = suits;
+          room = rw (is .planned) (omega (arith, place-fits (fenceCount (shapeOf header)) value (header .values) below, is .fences-lent));
+        }
 
     -- and their places are numbers that the code can have
     pub fences-bound : value * plan .fences ≤ 262144

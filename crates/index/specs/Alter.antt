@@ -27,6 +27,11 @@ pub record Suits (plan : Plan) (words value : ℕ) : Type 0 where
   pub fences : plan .fences ≡ fenceCount (plan .shape)
   pub inside : value * blockSize (plan .shape) + blockSize (plan .shape) ≤ words
 
+-- and its fences lie inside so many records
+pub record Fenced (plan : Plan) (words fences value : ℕ) : Type 0 where
+  pub suits : Suits plan words value
+  pub room : value * fenceCount (plan .shape) + fenceCount (plan .shape) ≤ fences
+
 -- the block of a value
 abbrev pub blockIn : Plan → List ℕ → ℕ → List ℕ
 blockIn plan words value = part words (value * blockSize (plan .shape)) (blockSize (plan .shape))

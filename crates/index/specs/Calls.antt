@@ -15,7 +15,7 @@ use Rattle.blocks.specs.Change.{merged, mergeDue, flipped}
 use Rattle.blocks.specs.Column.{loaded}
 use Rattle.index.specs.Fences.{fencesFrom}
 use Rattle.index.specs.Memory.{Memory, limits, withinLimits, shapeOf, lent, blockAt, rowsIn, every, sound}
-use Rattle.index.specs.Reading.{rowOf, isDamaged, isDeleted, refusedValue, valueOf, ValuePaper, valuePaper}
+use Rattle.index.specs.Reading.{rowOf, isDamaged, isDeleted, isFree, refusedValue, valueOf, ValuePaper, valuePaper}
 use Rattle.index.specs.Outcomes.{After, made, change}
 use Rattle.index.specs.declared.header.Header.{Header}
 
@@ -181,7 +181,7 @@ module _ (header : Header) (memory : Memory) where
       ∷ small header memory
       ∷ badValue header memory value
       ∷ Full when leb (header .rows) (header .issued)
-      ∷ Damaged when (rowOf header memory (header .issued) .damaged || not (isDeleted (rowOf header memory (header .issued))))
+      ∷ Damaged when not (isFree (rowOf header memory (header .issued)))
       ∷ Damaged when not (whole header memory value)
       ∷ []
 

@@ -5,3 +5,4 @@ pub mod Alter
 pub mod Reading
 pub mod Outcomes
 pub mod Calls
+pub mod Soundness

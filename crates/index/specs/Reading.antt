@@ -1,11 +1,11 @@
 -- Document 01, "Reading one bit": a row in every value, and its state.
-use mathlib.Core.Bool.{Bool, true, false, cond, _||_}
+use mathlib.Core.Bool.{Bool, true, false, not, cond, _&&_, _||_}
 use Prim.Native.Nat.{ℕ, zero, suc, _+_, _*_, _-_, _/_, _%_, _^_}
 use lib.Dec.{ltb, eqb}
 use lib.ListN.{getD}
 use Rattle.answers.specs.Numbers.{numberOf}
 use Rattle.answers.specs.declared.Refusal.{Refusal}
-use Rattle.answers.specs.declared.Refusal.the-variants.{Damaged}
+use Rattle.answers.specs.declared.Refusal.the-variants.{Damaged, Gone}
 use Rattle.blocks.specs.Shape.{fenceCount}
 use Rattle.blocks.specs.Read.{readGroup}
 use Rattle.blocks.specs.declared.read.Reading.{Reading}
@@ -15,6 +15,8 @@ use Rattle.index.specs.Memory.{Memory, shapeOf, blockAt}
 use Rattle.index.specs.declared.header.Header.{Header}
 use Rattle.index.specs.declared.header.Fence.{Fence}
 use Rattle.index.specs.declared.row.Row.{Row}
+use Rattle.index.specs.declared.row.Holder.{Holder}
+use Rattle.index.specs.declared.row.Holder.the-variants.{Found, Lost}
 use Rattle.index.specs.declared.row.State.{State}
 use Rattle.index.specs.declared.row.State.the-variants.{Live, Deleted, Refused}
 use Rattle.index.specs.declared.row.Value.{Value}
@@ -58,6 +60,10 @@ isDamaged row = row .damaged || ltb 1 (row .holders)
 abbrev pub isDeleted : Row → Bool
 isDeleted row = eqb (row .holders) 0
 
+-- every read went well and none found a 1
+abbrev pub isFree : Row → Bool
+isFree row = not (row .damaged) && isDeleted row
+
 -- a refusal opens no words
 abbrev pub refusedValue : Refusal → Value
 refusedValue refusal = record { state = Refused refusal; opened = 0 }
@@ -67,6 +73,10 @@ unfoldable pub valueOf : Row → Value
 valueOf row =
     cond (isDamaged row) (refusedValue Damaged)
     (cond (isDeleted row) (record { state = Deleted; opened = row .opened }) (record { state = Live (row .value); opened = row .opened }))
+
+-- the value that holds a row which is to be changed, or the refusal that its state earns: damage comes before GONE
+unfoldable pub holderOf : Row → Holder
+holderOf row = cond (isDamaged row) (Lost Damaged) (cond (isDeleted row) (Lost Gone) (Found (row .value)))
 
 -- what the paper says of an answer of Value: its number; 1 for a live row; its value, 255 for deleted, 0 when refused; and the words opened
 pub record ValuePaper : Type 0 where

@@ -1,12 +1,12 @@
 // The lent fence records: a thin read and a thin write, and the two ways of going through the fences
 // of a value, which are made anew or compared. Where a fence leads is found on plain numbers.
 ghost use mathlib.Core.Path.{_≡_};
-ghost use Prim.Native.Nat.{_+_, _*_, _<_, _≤_};
+ghost use Prim.Native.Nat.{_*_, _<_, _≤_};
 ghost use lib.ListN.{length, getD, set};
 ghost use Rattle.blocks.specs.Shape.{fenceCount};
 ghost use Rattle.blocks.specs.Block.{part, valueLength};
 ghost use Rattle.blocks.specs.Fences.{cursorAt, fenceAt};
-ghost use Rattle.index.specs.Alter.{Suits, blockIn, listIn, renewedFences};
+ghost use Rattle.index.specs.Alter.{Suits, Fenced, blockIn, listIn, renewedFences};
 ghost use Rattle.index.specs.Fences.{fence, noFence, isFence, rightFences, fenceBefore};
 use crate::entry::Plan;
 use crate::header::Fence;
@@ -63,8 +63,7 @@ fn is_fence(cursor: Cursor, fence: Fence) -> bool
 
 // Makes the fences of a value anew, in one pass over its list.
 pub fn renew(words: &[u32], fences: &mut [Fence], plan: Plan, value: u32)
-    requires { ⌜ Suits plan (length (now words)) value × (valueLength (blockIn plan (now words) value) ≤ plan .shape .groups)
-        × (value * fenceCount (plan .shape) + fenceCount (plan .shape) ≤ length (now fences)) ⌝ }
+    requires { ⌜ Fenced plan (length (now words)) (length (now fences)) value × (valueLength (blockIn plan (now words) value) ≤ plan .shape .groups) ⌝ }
     ensures { λ _. ⌜ now (fences .exit) ≡ renewedFences plan (now (words .entry)) (now (fences .entry)) value ⌝ }
 {
     let from = value as usize * plan.fences;
@@ -79,8 +78,7 @@ pub fn renew(words: &[u32], fences: &mut [Fence], plan: Plan, value: u32)
 
 // Whether every fence of a value is right.
 pub fn fences_right(words: &[u32], fences: &[Fence], plan: Plan, value: u32) -> bool
-    requires { ⌜ Suits plan (length (now words)) value × (valueLength (blockIn plan (now words) value) ≤ plan .shape .groups)
-        × (value * fenceCount (plan .shape) + fenceCount (plan .shape) ≤ length (now fences)) ⌝ }
+    requires { ⌜ Fenced plan (length (now words)) (length (now fences)) value × (valueLength (blockIn plan (now words) value) ≤ plan .shape .groups) ⌝ }
     ensures { λ r. ⌜ r ≡ rightFences (plan .shape) (listIn plan (now (words .entry)) value) 0 (part (now (fences .entry)) (value * fenceCount (plan .shape)) (fenceCount (plan .shape))) ⌝ }
 {
     let from = value as usize * plan.fences;

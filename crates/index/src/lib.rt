@@ -5,6 +5,7 @@
 // and programs.
 pub mod alter;
 pub mod answering;
+pub mod changing;
 pub mod entry;
 pub mod fences;
 pub mod header;

@@ -4,7 +4,7 @@ ghost use Prim.Native.Nat.{_/_, _<_, _≤_};
 ghost use lib.ListN.{length};
 ghost use Rattle.blocks.specs.Read.{readGroup};
 ghost use Rattle.index.specs.Alter.{Suits, blockIn};
-ghost use Rattle.index.specs.Reading.{noRow, rowStep, valueOf, refusedValue};
+ghost use Rattle.index.specs.Reading.{noRow, rowStep, valueOf, refusedValue, isDamaged, isFree, holderOf};
 use crate::entry::Plan;
 use crate::header::Fence;
 use answers::Refusal;
@@ -32,6 +32,12 @@ pub enum State {
 pub struct Value {
     pub state: State,
     pub opened: usize,
+}
+
+// The value that holds a row which is to be changed, or the refusal that its state earns.
+pub enum Holder {
+    Found(u32),
+    Lost(Refusal),
 }
 
 // No value is read.
@@ -85,14 +91,21 @@ pub fn row_step(words: &[u32], plan: Plan, fence: Fence, row: u32, value: u32, b
     }
 }
 
+// Whether a read failed, or the row is in two values or more.
+fn is_damaged(row: Row) -> bool
+    ensures { λ r. ⌜ r ≡ isDamaged row ⌝ }
+{
+    if row.damaged {
+        return true;
+    }
+    1 < row.holders
+}
+
 // What Value answers for a row that is read in all values.
 pub fn value_of(row: Row) -> Value
     ensures { λ r. ⌜ r ≡ valueOf row ⌝ }
 {
-    if row.damaged {
-        return refused(Refusal::Damaged);
-    }
-    if 1 < row.holders {
+    if is_damaged(row) {
         return refused(Refusal::Damaged);
     }
     if row.holders == 0 {
@@ -115,4 +128,27 @@ pub fn refused(refusal: Refusal) -> Value
         state: State::Refused(refusal),
         opened: 0,
     }
+}
+
+// The holder of a row that is read in all values: damage comes before GONE.
+pub fn holder_of(row: Row) -> Holder
+    ensures { λ r. ⌜ r ≡ holderOf row ⌝ }
+{
+    if is_damaged(row) {
+        return Holder::Lost(Refusal::Damaged);
+    }
+    if row.holders == 0 {
+        return Holder::Lost(Refusal::Gone);
+    }
+    Holder::Found(row.value)
+}
+
+// Whether every read of a row went well and none found a 1.
+pub fn is_free(row: Row) -> bool
+    ensures { λ r. ⌜ r ≡ isFree row ⌝ }
+{
+    if row.damaged {
+        return false;
+    }
+    row.holders == 0
 }

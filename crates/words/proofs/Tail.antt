@@ -13,12 +13,12 @@ use Rattle.words.specs.Rows.{groupsFor, bitsOf, rowsOf, rowAt, allZero, 
 use Rattle.words.proofs.Group.{drop-bitsOf, allZero-bitsOf}
 use Rattle.words.proofs.Groups.{getD-rowsOf}
 
-allZero-getD : (rows : List ℕ) → allZero rows ≡ true → (i : ℕ) → getD rows i 0 ≡ 0
+pub allZero-getD : (rows : List ℕ) → allZero rows ≡ true → (i : ℕ) → getD rows i 0 ≡ 0
 allZero-getD [] e i = refl
 allZero-getD (row ∷ rows) e zero = eqb-true row 0 (and-eq-true-iff (eqb row 0) (allZero rows) .0 e .0)
 allZero-getD (row ∷ rows) e (suc i) = allZero-getD rows (and-eq-true-iff (eqb row 0) (allZero rows) .0 e .1) i
 
-getD-allZero : (rows : List ℕ) → ((i : ℕ) → getD rows i 0 ≡ 0) → allZero rows ≡ true
+pub getD-allZero : (rows : List ℕ) → ((i : ℕ) → getD rows i 0 ≡ 0) → allZero rows ≡ true
 getD-allZero [] h = refl
 getD-allZero (row ∷ rows) h = rw (eq-eqb row 0 (h 0)) (getD-allZero rows (λ i. h (suc i)))
 

@@ -42,7 +42,7 @@ use denote.Triple.Walked.{says, needs, Stays, stay-slice, stay-dropped, walkOf, 
 use Rattle.blocks.specs.Shape.{fenceCount}
 use Rattle.blocks.specs.Block.{valueLength}
 use Rattle.blocks.specs.Fences.{cursorAt, fenceAt}
-use Rattle.index.specs.Alter.{Suits, blockIn, listIn, renewedFences}
+use Rattle.index.specs.Alter.{Suits, Fenced, blockIn, listIn, renewedFences}
 use Rattle.index.specs.Fences.{fence, fenceBefore}
 use Rattle.index.proofs.fences.Turns.{fence-inside, fence-fits, first-fits, below, goes-on, madeTo, none-made, makes, all-made}
 use Rattle.blocks.specs.declared.fence.Cursor.{Cursor}
@@ -74,26 +74,26 @@ use Rattle.index.proofs.fences.renew.Statement as stated
 use Rattle.index.proofs.fences.renew.Code as code
 
 -- ---- what the author says, at each place
-fits-1 : (words : List ℕ) (fences : List Fence) (plan : Plan) (value : ℕ) (room-fences : Room Fence-T.the-row (length fences)) (req : Suits plan (length words) value × (valueLength (blockIn plan words value) ≤ plan .shape .groups) × (value * fenceCount (plan .shape) + fenceCount (plan .shape) ≤ length fences)) → value * (plan .fences) < 2 ^ 64
-fits-1 words fences plan value room-fences req = first-fits words value (req .0) (length fences) (req .2) (room-fences .0)
+fits-1 : (words : List ℕ) (fences : List Fence) (plan : Plan) (value : ℕ) (room-fences : Room Fence-T.the-row (length fences)) (req : Fenced plan (length words) (length fences) value × (valueLength (blockIn plan words value) ≤ plan .shape .groups)) → value * (plan .fences) < 2 ^ 64
+fits-1 words fences plan value room-fences req = first-fits words value (req .0 .suits) (length fences) (req .0 .room) (room-fences .0)
 
-loop-start : (words : List ℕ) (fences : List Fence) (plan : Plan) (value : ℕ) (req : Suits plan (length words) value × (valueLength (blockIn plan words value) ≤ plan .shape .groups) × (value * fenceCount (plan .shape) + fenceCount (plan .shape) ≤ length fences)) (r1 : Cursor) (e1 : r1 ≡ cursorAt 0 0) → (r1 ≡ fenceBefore (plan .shape) (listIn plan words value) 0) × (fences ≡ madeTo words value (req .0) fences (req .2) 0)
-loop-start words fences plan value req r1 e1 = (e1, none-made words value (req .0) fences (req .2))
+loop-start : (words : List ℕ) (fences : List Fence) (plan : Plan) (value : ℕ) (req : Fenced plan (length words) (length fences) value × (valueLength (blockIn plan words value) ≤ plan .shape .groups)) (r1 : Cursor) (e1 : r1 ≡ cursorAt 0 0) → (r1 ≡ fenceBefore (plan .shape) (listIn plan words value) 0) × (fences ≡ madeTo words value (req .0 .suits) fences (req .0 .room) 0)
+loop-start words fences plan value req r1 e1 = (e1, none-made words value (req .0 .suits) fences (req .0 .room))
 
-call-2 : (words : List ℕ) (fences : List Fence) (plan : Plan) (value : ℕ) (req : Suits plan (length words) value × (valueLength (blockIn plan words value) ≤ plan .shape .groups) × (value * fenceCount (plan .shape) + fenceCount (plan .shape) ≤ length fences)) (j : ℕ) (cursor : Cursor) (made : List Fence) (inv : (cursor ≡ fenceBefore (plan .shape) (listIn plan words value) j) × (made ≡ madeTo words value (req .0) fences (req .2) j)) (less : j < (plan .fences)) → Suits plan (length words) value × (valueLength (blockIn plan words value) ≤ plan .shape .groups) × (j < fenceCount (plan .shape)) × (cursor ≡ fenceBefore (plan .shape) (listIn plan words value) j)
-call-2 words fences plan value req j cursor made inv less = (req .0, req .1, below words value (req .0) j less, inv .0)
+call-2 : (words : List ℕ) (fences : List Fence) (plan : Plan) (value : ℕ) (req : Fenced plan (length words) (length fences) value × (valueLength (blockIn plan words value) ≤ plan .shape .groups)) (j : ℕ) (cursor : Cursor) (made : List Fence) (inv : (cursor ≡ fenceBefore (plan .shape) (listIn plan words value) j) × (made ≡ madeTo words value (req .0 .suits) fences (req .0 .room) j)) (less : j < (plan .fences)) → Suits plan (length words) value × (valueLength (blockIn plan words value) ≤ plan .shape .groups) × (j < fenceCount (plan .shape)) × (cursor ≡ fenceBefore (plan .shape) (listIn plan words value) j)
+call-2 words fences plan value req j cursor made inv less = (req .0 .suits, req .1, below words value (req .0 .suits) j less, inv .0)
 
-fits-2 : (words : List ℕ) (fences : List Fence) (plan : Plan) (value : ℕ) (room-fences : Room Fence-T.the-row (length fences)) (req : Suits plan (length words) value × (valueLength (blockIn plan words value) ≤ plan .shape .groups) × (value * fenceCount (plan .shape) + fenceCount (plan .shape) ≤ length fences)) (j : ℕ) (less : j < (plan .fences)) → (value * (plan .fences)) + j < 2 ^ 64
-fits-2 words fences plan value room-fences req j less = fence-fits words value (req .0) (length fences) (req .2) (room-fences .0) j less
+fits-2 : (words : List ℕ) (fences : List Fence) (plan : Plan) (value : ℕ) (room-fences : Room Fence-T.the-row (length fences)) (req : Fenced plan (length words) (length fences) value × (valueLength (blockIn plan words value) ≤ plan .shape .groups)) (j : ℕ) (less : j < (plan .fences)) → (value * (plan .fences)) + j < 2 ^ 64
+fits-2 words fences plan value room-fences req j less = fence-fits words value (req .0 .suits) (length fences) (req .0 .room) (room-fences .0) j less
 
-call-3 : (words : List ℕ) (fences : List Fence) (plan : Plan) (value : ℕ) (req : Suits plan (length words) value × (valueLength (blockIn plan words value) ≤ plan .shape .groups) × (value * fenceCount (plan .shape) + fenceCount (plan .shape) ≤ length fences)) (j : ℕ) (made : List Fence) (n-made : length made ≡ length fences) (less : j < (plan .fences)) → ((value * (plan .fences)) + j) < length made
-call-3 words fences plan value req j made n-made less = subst (λ (m : ℕ). value * plan .fences + j < m) (sym n-made) (fence-inside words value (req .0) (length fences) (req .2) j less)
+call-3 : (words : List ℕ) (fences : List Fence) (plan : Plan) (value : ℕ) (req : Fenced plan (length words) (length fences) value × (valueLength (blockIn plan words value) ≤ plan .shape .groups)) (j : ℕ) (made : List Fence) (n-made : length made ≡ length fences) (less : j < (plan .fences)) → ((value * (plan .fences)) + j) < length made
+call-3 words fences plan value req j made n-made less = subst (λ (m : ℕ). value * plan .fences + j < m) (sym n-made) (fence-inside words value (req .0 .suits) (length fences) (req .0 .room) j less)
 
-loop-keep : (words : List ℕ) (fences : List Fence) (plan : Plan) (value : ℕ) (req : Suits plan (length words) value × (valueLength (blockIn plan words value) ≤ plan .shape .groups) × (value * fenceCount (plan .shape) + fenceCount (plan .shape) ≤ length fences)) (j : ℕ) (cursor : Cursor) (made : List Fence) (inv : (cursor ≡ fenceBefore (plan .shape) (listIn plan words value) j) × (made ≡ madeTo words value (req .0) fences (req .2) j)) (less : j < (plan .fences)) (r2 : Cursor) (e2 : r2 ≡ fenceAt (plan .shape) (listIn plan words value) j) (fences3 : List Fence) (e3 : fences3 ≡ set made ((value * (plan .fences)) + j) (fence (r2 .place) (r2 .first))) → (r2 ≡ fenceBefore (plan .shape) (listIn plan words value) (j + 1)) × (fences3 ≡ madeTo words value (req .0) fences (req .2) (j + 1))
-loop-keep words fences plan value req j cursor made inv less r2 e2 fences3 e3 = (goes-on words value (req .0) j r2 e2, makes words value (req .0) fences (req .2) j less made (inv .1) r2 e2 fences3 e3)
+loop-keep : (words : List ℕ) (fences : List Fence) (plan : Plan) (value : ℕ) (req : Fenced plan (length words) (length fences) value × (valueLength (blockIn plan words value) ≤ plan .shape .groups)) (j : ℕ) (cursor : Cursor) (made : List Fence) (inv : (cursor ≡ fenceBefore (plan .shape) (listIn plan words value) j) × (made ≡ madeTo words value (req .0 .suits) fences (req .0 .room) j)) (less : j < (plan .fences)) (r2 : Cursor) (e2 : r2 ≡ fenceAt (plan .shape) (listIn plan words value) j) (fences3 : List Fence) (e3 : fences3 ≡ set made ((value * (plan .fences)) + j) (fence (r2 .place) (r2 .first))) → (r2 ≡ fenceBefore (plan .shape) (listIn plan words value) (j + 1)) × (fences3 ≡ madeTo words value (req .0 .suits) fences (req .0 .room) (j + 1))
+loop-keep words fences plan value req j cursor made inv less r2 e2 fences3 e3 = (goes-on words value (req .0 .suits) j r2 e2, makes words value (req .0 .suits) fences (req .0 .room) j less made (inv .1) r2 e2 fences3 e3)
 
-exit-1 : (words : List ℕ) (fences : List Fence) (plan : Plan) (value : ℕ) (req : Suits plan (length words) value × (valueLength (blockIn plan words value) ≤ plan .shape .groups) × (value * fenceCount (plan .shape) + fenceCount (plan .shape) ≤ length fences)) (j : ℕ) (cursor : Cursor) (made : List Fence) (inv : (cursor ≡ fenceBefore (plan .shape) (listIn plan words value) j) × (made ≡ madeTo words value (req .0) fences (req .2) j)) (all : j ≡ (plan .fences)) → made ≡ renewedFences plan words fences value
-exit-1 words fences plan value req j cursor made inv all = all-made words value (req .0) fences (req .2) j made (inv .1) all
+exit-1 : (words : List ℕ) (fences : List Fence) (plan : Plan) (value : ℕ) (req : Fenced plan (length words) (length fences) value × (valueLength (blockIn plan words value) ≤ plan .shape .groups)) (j : ℕ) (cursor : Cursor) (made : List Fence) (inv : (cursor ≡ fenceBefore (plan .shape) (listIn plan words value) j) × (made ≡ madeTo words value (req .0 .suits) fences (req .0 .room) j)) (all : j ≡ (plan .fences)) → made ≡ renewedFences plan words fences value
+exit-1 words fences plan value req j cursor made inv all = all-made words value (req .0 .suits) fences (req .0 .room) j made (inv .1) all
 
 abbrev stayed : Stays (renew-F.ended .signature .params) (renew-F.ended .kept)
 stayed = (stay-dropped (shrSliceOf (0 ∷ []) tt (plain (λ _. u32))) yes, (stay-slice (1 ∷ []) tt (plain (λ _. Fence-T.the-row)), (stay-dropped (plain (λ _. Plan-T.the-row)) yes, (stay-dropped (plain (λ _. u32)) yes, tt))))
@@ -121,7 +121,7 @@ module _ {M : Type 1} (𝓤 : URA M) (H : Heap 𝓤) (A : Atoms 𝓤) (W : Given
       nothing ! $ move ! (2 ∷ 0 ∷ []) $ join ! $ move ! (1 ∷ 0 ∷ []) $ join ! $ frame ! $ nothing ! $ nothing ! $ fjoin ! $ nothing ! $ fjoin ! $ move ! (1 ∷ 0 ∷ []) $ fjoin ! $ nothing ! $ fjoin ! $ frame ! $ feqI ! (List Val) (vunit ∷ []) (vunit ∷ []) refl $ done !
 
   module _ (𝓣 : Tables 𝓤 H) (fm : FmC 𝓤 H (W .laws) (𝓣 .C)) (known-first-word : Triple 𝓤 (𝓣 .C #index·first-word) (contractOf 𝓤 H A first-word-F.ended (first-word-F.clauses 𝓤 H A mem run))) (known-find-fence : Triple 𝓤 (𝓣 .C #index·find-fence) (contractOf 𝓤 H A find-fence-F.ended (find-fence-F.clauses 𝓤 H A mem run))) (known-put-fence : Triple 𝓤 (𝓣 .C #index·put-fence) (contractOf 𝓤 H A put-fence-F.ended (put-fence-F.clauses 𝓤 H A mem run))) where
-    walk : Room u32 (length words) → Room Fence-T.the-row (length fences) → Is Plan-T.the-row plan (SL.vals Plan-T.the-type Plan-L.the-laws plan) → value < 2 ^ 32 → Suits plan (length words) value × (valueLength (blockIn plan words value) ≤ plan .shape .groups) × (value * fenceCount (plan .shape) + fenceCount (plan .shape) ≤ length fences) → ent 𝓤 (onEntry 𝓤 H A renew-F.signature (κ₀, (κ₁, tt)) (q₀, (q₁, tt)) args-of vals-of) (WpFn 𝓤 H (𝓣 .C) (𝓣 .Λ) code.function (sliceVal (b₀, o₀) (length words) ∷ sliceVal (b₁, o₁) (length fences) ∷ SL.val Plan-T.the-type Plan-L.the-laws plan ∷ vint w32 value ∷ []) Post)
+    walk : Room u32 (length words) → Room Fence-T.the-row (length fences) → Is Plan-T.the-row plan (SL.vals Plan-T.the-type Plan-L.the-laws plan) → value < 2 ^ 32 → Fenced plan (length words) (length fences) value × (valueLength (blockIn plan words value) ≤ plan .shape .groups) → ent 𝓤 (onEntry 𝓤 H A renew-F.signature (κ₀, (κ₁, tt)) (q₀, (q₁, tt)) args-of vals-of) (WpFn 𝓤 H (𝓣 .C) (𝓣 .Λ) code.function (sliceVal (b₀, o₀) (length words) ∷ sliceVal (b₁, o₁) (length fences) ∷ SL.val Plan-T.the-type Plan-L.the-laws plan ∷ vint w32 value ∷ []) Post)
     walk room-words room-fences is-plan fit-value req =
         qed W ((‵ (flft κ₀ q₀) ⊛ (‵ (flft κ₁ q₁) ⊛ ‵ ftrue)) ∷ ‵ (owns (ShrSlice (named 0) κ₀ u32 ∷ MutSlice (named 1) κ₁ Fence-T.the-row ∷ Plan-T.the-row ∷ u32 ∷ []) args-of vals-of) ∷ []) ∵ enter ! (𝓣 .C) (𝓣 .Λ) code.function (sliceVal (b₀, o₀) (length words) ∷ sliceVal (b₁, o₁) (length fences) ∷ SL.val Plan-T.the-type Plan-L.the-laws plan ∷ vint w32 value ∷ []) _ $
         alloc1 ! (λ l₀. alloc1 ! (λ l₁. alloc1 ! (λ l₂. alloc1 ! (λ l₃. alloc1 ! (λ l₄. alloc1 ! (λ l₅. alloc1 ! (λ l₆. alloc1 ! (λ l₇. alloc1 ! (λ l₈. alloc1 ! (λ l₉. alloc1 ! (λ l₁₀. alloc1 ! (λ l₁₁. alloc1 ! (λ l₁₂. alloc1 ! (λ l₁₃. alloc0 ! $ params1 ! $
@@ -137,7 +137,7 @@ module _ {M : Type 1} (𝓤 : URA M) (H : Heap 𝓤) (A : Atoms 𝓤) (W : Given
         (λ u1 r1 e1 is1.
         land ! (from ! (stop !)) (init ! 18 refl (SL.lawful Cursor-T.the-type Cursor-L.the-laws 𝓤 H A W .typed r1 _ is1 .0)) $ rewrite ! 18 (λ (w : Val). ‵ (fat fullShare (Cursor-L.mir) l₆ 0 w)) (ap only (SL.tells Cursor-T.the-type Cursor-L.the-laws r1 _ is1)) refl $
         assigns ! (of-opd ! (lit ! tt)) (from ! (stop !)) (init ! 16 refl (tt, record { fits = (lit< tt) })) $
-        let X : Type 0 = (j : ℕ) × ((cursor : Cursor) × ((made : List Fence) × ((j ≤ (plan .fences)) × ((Is Cursor-T.the-row cursor (SL.vals Cursor-T.the-type Cursor-L.the-laws cursor)) × ((length made ≡ length fences) × ((cursor ≡ fenceBefore (plan .shape) (listIn plan words value) j) × (made ≡ madeTo words value (req .0) fences (req .2) j))))))) in
+        let X : Type 0 = (j : ℕ) × ((cursor : Cursor) × ((made : List Fence) × ((j ≤ (plan .fences)) × ((Is Cursor-T.the-row cursor (SL.vals Cursor-T.the-type Cursor-L.the-laws cursor)) × ((length made ≡ length fences) × ((cursor ≡ fenceBefore (plan .shape) (listIn plan words value) j) × (made ≡ madeTo words value (req .0 .suits) fences (req .0 .room) j))))))) in
         let At : X → List (Item 𝓤) = λ x. ‵ (flft κ₀ q₀) ∷ ‵ (ShrSlice (named 0) κ₀ u32 .own (ref b₀ o₀ γ₀ words) (sliceVal (b₀, o₀) (length words) ∷ [])) ∷ ‵ (flft κ₁ q₁) ∷ ‵ (MutSlice (named 1) κ₁ Fence-T.the-row .own (ref b₁ o₁ γ₁ (x .1 .1 .0)) (sliceVal (b₁, o₁) (length fences) ∷ [])) ∷ ‵ (froom (tyInt w64) l₁₃ 0) ∷ ‵ (fdies (tyInt w64) l₁₃) ∷ ‵ (froom (sliceTy (tyRef erased mut (pointee (Fence-T.the-row .written)))) l₁₂ 0) ∷ ‵ (fdies (sliceTy (tyRef erased mut (pointee (Fence-T.the-row .written)))) l₁₂) ∷ ‵ (froom (tyRef erased mut (pointee (Fence-T.the-row .written))) l₁₁ 0) ∷ ‵ (fdies (tyRef erased mut (pointee (Fence-T.the-row .written))) l₁₁) ∷ ‵ (froom (tyUnit) l₁₀ 0) ∷ ‵ (fdies (tyUnit) l₁₀) ∷ ‵ (froom (tyBool) l₉ 0) ∷ ‵ (fdies (tyBool) l₉) ∷ ‵ (fat fullShare (tyInt w64) l₈ 0 (vint w64 value)) ∷ ‵ (fdies (tyInt w64) l₈) ∷ ‵ (fat fullShare (tyInt w64) l₇ 0 (vint w64 (x .0))) ∷ ‵ (fdies (tyInt w64) l₇) ∷ ‵ (fat fullShare (Cursor-L.mir) l₆ 0 (SL.val Cursor-T.the-type Cursor-L.the-laws (x .1 .0))) ∷ ‵ (fdies (Cursor-L.mir) l₆) ∷ ‵ (fat fullShare (tyInt w64) l₅ 0 (vint w64 (value * (plan .fences)))) ∷ ‵ (fdies (tyInt w64) l₅) ∷ ‵ (fat fullShare (tyInt w32) l₄ 0 (vint w32 value)) ∷ ‵ (fdies (tyInt w32) l₄) ∷ ‵ (fat fullShare (Plan-L.mir) l₃ 0 (SL.val Plan-T.the-type Plan-L.the-laws plan)) ∷ ‵ (fdies (Plan-L.mir) l₃) ∷ ‵ (fat fullShare (sliceTy (tyRef (named 1) mut (pointee (Fence-T.the-row .written)))) l₂ 0 (sliceVal (b₁, o₁) (length fences))) ∷ ‵ (fdies (sliceTy (tyRef (named 1) mut (pointee (Fence-T.the-row .written)))) l₂) ∷ ‵ (fat fullShare (sliceTy (tyRef (named 0) imm (tyInt w32))) l₁ 0 (sliceVal (b₀, o₀) (length words))) ∷ ‵ (fdies (sliceTy (tyRef (named 0) imm (tyInt w32))) l₁) ∷ ‵ (froom (tyUnit) l₀ 0) ∷ ‵ (fdies (tyUnit) l₀) ∷ [] in
         while-loops ! 𝓣 (Nearer (λ (x : X). x .0) (plan .fences)) (Nearer-wf (λ (x : X). x .0) (plan .fences)) At (λ x whiles.
         assigns ! (bin ! (load ! (from ! (stop !)) (look ! 16 refl)) (load ! (from ! (fld ! refl (stop !))) (look-in ! 24 (sub ! 2 refl (whole !)))) tt) (from ! (stop !)) (init ! 12 refl (tt, tt)) $

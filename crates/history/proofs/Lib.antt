@@ -1,0 +1,12 @@
+pub mod Accepting
+pub mod Changes
+pub mod SameRows
+pub mod Sound
+pub mod SoundAfter
+pub mod SoundBlocks
+pub mod SoundFlip
+pub mod SoundLoad
+pub mod SoundMerge
+pub mod SoundReading
+pub mod SoundTests
+pub mod SoundValue

@@ -1,0 +1,172 @@
+// The calls that change rows: Merge, Insert, Delete and Update. Each asks its refusals first, changes the
+// words, and makes the fences anew where a value was merged.
+ghost use mathlib.Core.Path.{_≡_};
+ghost use mathlib.Core.Bool.{_&&_};
+ghost use Prim.Native.Nat.{_<_, _≤_};
+ghost use lib.ListN.{length};
+ghost use Rattle.blocks.specs.Block.{valueLength};
+ghost use Rattle.index.specs.Alter.{Fenced, blockIn, isWhole, flipWords, flipFences, moveWords, moveFences, renewedIf};
+ghost use Rattle.index.specs.Memory.{memoryOf};
+ghost use Rattle.index.specs.Outcomes.{Leaves};
+ghost use Rattle.index.specs.Calls.{mergeAfter, insertAfter, deleteAfter, updateAfter};
+use crate::alter::Alter;
+use crate::alter::Move;
+use crate::alter::flip_value;
+use crate::alter::merge_value;
+use crate::alter::move_row;
+use crate::entry::Entry;
+use crate::entry::Plan;
+use crate::entry::enter_insert;
+use crate::entry::enter_row;
+use crate::entry::enter_update;
+use crate::entry::enter_value;
+use crate::fences::renew;
+use crate::header::Changed;
+use crate::header::Fence;
+use crate::header::Header;
+use crate::header::done;
+use crate::header::grow;
+use crate::header::refuse;
+use crate::reading::read_row;
+use crate::row::Holder;
+use crate::row::holder_of;
+use crate::row::is_free;
+use answers::Refusal;
+
+// Makes the fences of a value anew, if a merge asks for it.
+fn renew_if(words: &[u32], fences: &mut [Fence], plan: Plan, value: u32, due: bool)
+    requires { ⌜ Fenced plan (length (now words)) (length (now fences)) value × (valueLength (blockIn plan (now words) value) ≤ plan .shape .groups) ⌝ }
+    ensures { λ _. ⌜ now (fences .exit) ≡ renewedIf due plan (now (words .entry)) (now (fences .entry)) value ⌝ }
+{
+    if due {
+        renew(words, fences, plan, value);
+    }
+}
+
+// Flips a row in a value, and makes its fences anew where that merged it. False if its lists are not whole.
+fn flip_fenced(words: &mut [u32], fences: &mut [Fence], plan: Plan, value: u32, row: u32) -> bool
+    requires { ⌜ Fenced plan (length (now words)) (length (now fences)) value × (row < plan .shape .rows) ⌝ }
+    ensures { λ r. ⌜ (r ≡ isWhole plan (now (words .entry)) value) × (now (words .exit) ≡ flipWords plan (now (words .entry)) value row)
+        × (now (fences .exit) ≡ flipFences plan (now (words .entry)) (now (fences .entry)) value row) ⌝ }
+{
+    match flip_value(words, plan, value, row) {
+        Alter::Fails(_) => false,
+        Alter::Keeps => true,
+        Alter::Renews => {
+            renew(words, fences, plan, value);
+            true
+        }
+    }
+}
+
+// Moves a row from one value to another, and makes the fences of either anew where that merged it. False if
+// the lists of one of them are not whole.
+fn move_fenced(
+    words: &mut [u32],
+    fences: &mut [Fence],
+    plan: Plan,
+    old: u32,
+    new: u32,
+    row: u32,
+) -> bool
+    requires { ⌜ Fenced plan (length (now words)) (length (now fences)) old × Fenced plan (length (now words)) (length (now fences)) new
+        × (old ≡ new → ⊥) × (row < plan .shape .rows) ⌝ }
+    ensures { λ r. ⌜ (r ≡ (isWhole plan (now (words .entry)) old && isWhole plan (now (words .entry)) new))
+        × (now (words .exit) ≡ moveWords plan (now (words .entry)) old new row)
+        × (now (fences .exit) ≡ moveFences plan (now (words .entry)) (now (fences .entry)) old new row) ⌝ }
+{
+    match move_row(words, plan, old, new, row) {
+        Move::Breaks(_) => false,
+        Move::Moves(first, second) => {
+            renew_if(words, fences, plan, old, first);
+            renew_if(words, fences, plan, new, second);
+            true
+        }
+    }
+}
+
+// Merges a value: V becomes V xor U, its fences are made anew and U becomes all zero.
+pub fn merge(words: &mut [u32], fences: &mut [Fence], header: Header, value: u32) -> Changed
+    ensures { λ r. ⌜ Leaves (mergeAfter header (memoryOf (now (words .entry)) (now (fences .entry))) value) r (now (words .exit)) (now (fences .exit)) ⌝ }
+{
+    match enter_value(words.len(), fences.len(), header, value) {
+        Entry::Stop(refusal) => refuse(header, refusal),
+        Entry::Ready(plan) => {
+            let Alter::Renews = merge_value(words, plan, value) else {
+                return refuse(header, Refusal::Damaged);
+            };
+            renew(words, fences, plan, value);
+            done(header)
+        }
+    }
+}
+
+// Adds a row of a value; answers the row.
+pub fn insert(words: &mut [u32], fences: &mut [Fence], header: Header, value: u32) -> Changed
+    ensures { λ r. ⌜ Leaves (insertAfter header (memoryOf (now (words .entry)) (now (fences .entry))) value) r (now (words .exit)) (now (fences .exit)) ⌝ }
+{
+    match enter_insert(words.len(), fences.len(), header, value) {
+        Entry::Stop(refusal) => refuse(header, refusal),
+        Entry::Ready(plan) => {
+            let found = read_row(words, fences, header, plan, header.issued);
+            if !is_free(found) {
+                return refuse(header, Refusal::Damaged);
+            }
+            if !flip_fenced(words, fences, plan, value, header.issued) {
+                return refuse(header, Refusal::Damaged);
+            }
+            grow(header)
+        }
+    }
+}
+
+// Deletes a row.
+pub fn delete(words: &mut [u32], fences: &mut [Fence], header: Header, row: u32) -> Changed
+    ensures { λ r. ⌜ Leaves (deleteAfter header (memoryOf (now (words .entry)) (now (fences .entry))) row) r (now (words .exit)) (now (fences .exit)) ⌝ }
+{
+    match enter_row(words.len(), fences.len(), header, row) {
+        Entry::Stop(refusal) => refuse(header, refusal),
+        Entry::Ready(plan) => {
+            let found = read_row(words, fences, header, plan, row);
+            match holder_of(found) {
+                Holder::Lost(refusal) => refuse(header, refusal),
+                Holder::Found(value) => {
+                    if !flip_fenced(words, fences, plan, value, row) {
+                        return refuse(header, Refusal::Damaged);
+                    }
+                    done(header)
+                }
+            }
+        }
+    }
+}
+
+// Gives a row another value. To the value that it has, it is accepted and changes nothing.
+pub fn update(
+    words: &mut [u32],
+    fences: &mut [Fence],
+    header: Header,
+    row: u32,
+    value: u32,
+) -> Changed
+    ensures { λ r. ⌜ Leaves (updateAfter header (memoryOf (now (words .entry)) (now (fences .entry))) row value) r (now (words .exit)) (now (fences .exit)) ⌝ }
+{
+    match enter_update(words.len(), fences.len(), header, row, value) {
+        Entry::Stop(refusal) => refuse(header, refusal),
+        Entry::Ready(plan) => {
+            let found = read_row(words, fences, header, plan, row);
+            match holder_of(found) {
+                Holder::Lost(refusal) => refuse(header, refusal),
+                Holder::Found(old) => {
+                    if old == value {
+                        return done(header);
+                    }
+                    if !move_fenced(words, fences, plan, old, value, row) {
+                        return refuse(header, Refusal::Damaged);
+                    }
+                    done(header)
+                }
+            }
+        }
+    }
+}
