@@ -13,9 +13,9 @@ use Rattle.blocks.proofs.Blocks.{block-written, block-apart}
 use Rattle.blocks.proofs.Parts.{getD-part, length-write, part-write, part-apart}
 use Rattle.blocks.proofs.Sizes.{places-apart}
 use Rattle.index.specs.Memory.{Memory, shapeOf, blockAt, fencesAt}
-use Rattle.index.specs.Fences.{noFence}
+use Rattle.index.specs.Fences.{noFence, fencesFrom}
 use Rattle.index.specs.Soundness.{Holds, FencesRight}
-use Rattle.index.specs.Calls.{fencesFrom, withBlock, renewed}
+use Rattle.index.specs.Calls.{withBlock, renewed}
 use Rattle.index.specs.declared.header.Header.{Header}
 use Rattle.index.specs.declared.header.Fence.{Fence}
 

@@ -135,7 +135,7 @@ module _ (header : Header) (memory : Memory) (s : Sound header memory) (value : 
   -- ---- the flips of the calls
 
   -- THEOREM: Insert: row n, which no value has, is flipped and issued
-  pub insert-sound : header .issued < header .rows → Sound (grown header memory) (flippedIn header memory value (header .issued))
+  pub insert-sound : header .issued < header .rows → Sound (grown header) (flippedIn header memory value (header .issued))
   insert-sound room =
       flip-sound (header .issued) room (λ other l differ. sound-clear header memory s other l (header .issued) (omega arith))
       (header .issued + 1) (omega arith) (omega arith) (omega arith)
