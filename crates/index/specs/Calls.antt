@@ -13,6 +13,7 @@ use Rattle.blocks.specs.Block.{write, valueList}
 use Rattle.blocks.specs.Whole.{wholeLists}
 use Rattle.blocks.specs.Change.{merged, mergeDue, flipped}
 use Rattle.blocks.specs.Column.{loaded}
+use Rattle.index.specs.Entry.{validColumn, headerFor}
 use Rattle.index.specs.Fences.{fencesFrom}
 use Rattle.index.specs.Memory.{Memory, limits, withinLimits, shapeOf, lent, blockAt, rowsIn, every, sound}
 use Rattle.index.specs.Reading.{rowOf, isDamaged, isDeleted, isFree, refusedValue, valueOf, ValuePaper, valuePaper}
@@ -76,17 +77,12 @@ loadedIn header column (suc value) memory =
 
 -- ---- Load
 
--- bytes 0 to d - 1 are values, 255 is a deleted row
-abbrev pub validColumn : ℕ → List ℕ → Bool
-validColumn values [] = true
-validColumn values (byte ∷ column) = (ltb byte values || eqb byte 255) && validColumn values column
-
 abbrev pub noHeader : Header
-noHeader = record { rows = 0; issued = 0; values = 0; threshold = 0; spacing = 0 }
+noHeader = headerFor 0 0 0 0 0
 
 module _ (rows values threshold spacing : ℕ) (column : List ℕ) where
   abbrev pub loadHeader : Header
-  loadHeader = record { rows = rows; issued = length column; values = values; threshold = threshold; spacing = spacing }
+  loadHeader = headerFor rows (length column) values threshold spacing
 
   abbrev pub loadChecks : Memory → List Check
   loadChecks memory =

@@ -1,9 +1,10 @@
 -- The refusals that calls begin with, 1 to 5, and the sizes that every call on an index works with.
 use mathlib.Core.Path.{_≡_}
-use mathlib.Core.Bool.{true, false, not}
+use mathlib.Core.Bool.{Bool, true, false, not, _&&_, _||_}
 use mathlib.Core.List.{List, [], _∷_}
 use Prim.Native.Nat.{ℕ, _*_, _≤_}
-use lib.Dec.{leb}
+use lib.Dec.{leb, ltb, eqb}
+use lib.ListN.{length}
 use Rattle.answers.specs.Outcome.{Check, _when_}
 use Rattle.answers.specs.declared.Refusal.the-variants.{BadHeader, Small, BadValue, NoRow, Full}
 use Rattle.blocks.specs.Shape.{blockSize, fenceCount}
@@ -57,3 +58,22 @@ enteredUpdate words fences header row value =
 abbrev pub enteredInsert : ℕ → ℕ → Header → ℕ → Entry
 enteredInsert words fences header value =
     entered words fences header (BadValue when leb (header .values) value ∷ Full when leb (header .rows) (header .issued) ∷ [])
+
+-- bytes 0 to d - 1 are values, 255 is a deleted row
+abbrev pub validByte : ℕ → ℕ → Bool
+validByte values byte = ltb byte values || eqb byte 255
+
+abbrev pub validColumn : ℕ → List ℕ → Bool
+validColumn values [] = true
+validColumn values (byte ∷ column) = validByte values byte && validColumn values column
+
+-- R, n, d, T and G
+abbrev pub headerFor : ℕ → ℕ → ℕ → ℕ → ℕ → Header
+headerFor rows issued values threshold spacing =
+    record { rows = rows; issued = issued; values = values; threshold = threshold; spacing = spacing }
+
+-- a load: the header's limits are asked of R, d, T and G alone
+abbrev pub enteredLoad : ℕ → ℕ → ℕ → ℕ → ℕ → ℕ → List ℕ → Entry
+enteredLoad words fences rows values threshold spacing column =
+    entered words fences (headerFor rows 0 values threshold spacing)
+    (BadValue when not (validColumn values column) ∷ Full when ltb rows (length column) ∷ [])

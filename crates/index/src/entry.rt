@@ -82,7 +82,7 @@ pub fn enter_index(words: usize, fences: usize, header: Header) -> Entry
 }
 
 // One check more, behind those that an entry has passed.
-fn ask(entry: Entry, refusal: Refusal, applies: bool) -> Entry
+pub fn ask(entry: Entry, refusal: Refusal, applies: bool) -> Entry
     ensures { λ r. ⌜ r ≡ asked entry (refusal when applies) ⌝ }
 {
     let Entry::Ready(plan) = entry else {

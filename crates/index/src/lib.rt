@@ -9,5 +9,6 @@ pub mod changing;
 pub mod entry;
 pub mod fences;
 pub mod header;
+pub mod loading;
 pub mod reading;
 pub mod row;
