@@ -1,5 +1,6 @@
 pub mod Blocks
 pub mod Columns
+pub mod EachRow
 pub mod EmptyUpdates
 pub mod FenceLaws
 pub mod Flipping

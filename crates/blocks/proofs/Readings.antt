@@ -14,6 +14,7 @@ use Rattle.lists.specs.Walk.{walkTo}
 use Rattle.lists.specs.declared.walk.Walk.{Walk}
 use Rattle.lists.specs.declared.walk.Walk.the-variants.{Covered, Damaged}
 use Rattle.lists.proofs.Combining.{getD-combined}
+use Rattle.lists.proofs.Operations.{exclusive-bits, onGroup-lt}
 use Rattle.lists.proofs.Covering.{length-rest}
 use Rattle.lists.proofs.Walks.{found, found-group, found-from}
 use Rattle.blocks.specs.Shape.{updateRoom}
@@ -88,6 +89,7 @@ module _ (shape : Shape) (block : List ℕ) where
   pub record GroupSays (place first group bits opened : ℕ) : Type 0 where
     pub some : 0 < opened
     pub few : opened ≤ shape .spacing + updateRoom shape
+    pub small : bits < 0x80000000
     pub same : first ≡ firstAt (valueList shape block) place → length (decode (valueList shape block)) ≡ length (decode (updateList shape block))
         → bits ≡ getD (current shape block) group 0
 
@@ -109,6 +111,7 @@ module _ (shape : Shape) (block : List ℕ) where
           record {
             some = omega (arith, value .some);
             few = omega (arith, value .few, update .few);
+            small = omega (arith, bits-are, onGroup-lt exclusive exclusive-bits left right);
             same = λ begins long.
                 sym bits-are
                 ∙ ap₂ (onGroup exclusive) (value .same begins) (update .same refl)

@@ -27,6 +27,14 @@ rounded-few : (groups spacing : ℕ) → 1 ≤ groups → 1 ≤ spacing → (gro
 rounded-few zero spacing h some = absurd (omega arith)
 rounded-few (suc groups) spacing h some = div-le-of-le-mul spacing (omega (arith, mul-suc spacing groups, mul-le-mul-right groups some))
 
+-- each of so many fences stands for a group that there is, and the fence of a group is one of them
+module _ (groups spacing : ℕ) (some : 1 ≤ spacing) where
+  pub rounded-group : (j : ℕ) → j < (groups + (spacing - 1)) / spacing → j * spacing < groups
+  rounded-group j h = omega (arith, suc-mul j spacing, le-div-iff-mul-le some .0 h)
+
+  pub rounded-of : (group : ℕ) → group < groups → group / spacing < (groups + (spacing - 1)) / spacing
+  rounded-of group h = le-div-iff-mul-le some .1 (omega (arith, suc-mul (group / spacing) spacing, div-add-mod' group spacing))
+
 module _ (shape : Shape) (limits : Limits shape) where
   pub some-groups : 1 ≤ shape .groups
   some-groups = omega (arith, limits .groupsAre, limits .someRows)
@@ -41,14 +49,12 @@ module _ (shape : Shape) (limits : Limits shape) where
   -- each fence stands for a group that there is
   pub fence-group : (j : ℕ) → j < fenceCount shape → j * shape .spacing < shape .groups
   unfolding fenceCount
-  fence-group j h = omega (arith, limits .someSpacing, suc-mul j (shape .spacing), le-div-iff-mul-le (limits .someSpacing) .0 h)
+  fence-group j h = rounded-group (shape .groups) (shape .spacing) (limits .someSpacing) j h
 
   -- the fence of a group: it is there, and its own group is less than G before
   pub fence-of : (group : ℕ) → group < shape .groups → group / shape .spacing < fenceCount shape
   unfolding fenceCount
-  fence-of group h =
-      let j = group / shape .spacing in
-      le-div-iff-mul-le (limits .someSpacing) .1 (omega (arith, limits .someSpacing, suc-mul j (shape .spacing), div-add-mod' group (shape .spacing)))
+  fence-of group h = rounded-of (shape .groups) (shape .spacing) (limits .someSpacing) group h
 
   pub fence-before : (group : ℕ) → group / shape .spacing * shape .spacing ≤ group
   fence-before group = omega (arith, div-add-mod' group (shape .spacing))

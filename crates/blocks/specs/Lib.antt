@@ -6,3 +6,4 @@ pub mod Query
 pub mod Change
 pub mod Column
 pub mod Fences
+pub mod Dump

@@ -1,6 +1,9 @@
 pub mod Altering
 pub mod Bytes
 pub mod Calls
+pub mod DumpFences
+pub mod DumpValues
+pub mod Dumping
 pub mod Entries
 pub mod Every
 pub mod FenceRecords

@@ -1,8 +1,9 @@
+pub mod Alter
+pub mod Calls
+pub mod Dumping
+pub mod Entry
 pub mod Fences
 pub mod Memory
-pub mod Entry
-pub mod Alter
-pub mod Reading
 pub mod Outcomes
-pub mod Calls
+pub mod Reading
 pub mod Soundness

@@ -37,7 +37,7 @@ pub bit-above : (n k : ℕ) → n % 2 ^ suc k ≡ n / 2 ^ k % 2 * 2 ^ k + n % 2 
 bit-above n k = rw (← one-add k) (mod-pow-add n 1 k)
 
 -- a bit below bit k is that of the remainder
-bit-below : (n k i : ℕ) → i < k → n / 2 ^ i % 2 ≡ n % 2 ^ k / 2 ^ i % 2
+pub bit-below : (n k i : ℕ) → i < k → n / 2 ^ i % 2 ≡ n % 2 ^ k / 2 ^ i % 2
 bit-below n k i h =
     rw split (sym (field n 1 i) ∙ ap (λ (m : ℕ). m / 2 ^ i) (sym (mod-mod-pow n (k - suc i) (1 + i))) ∙ field (n % 2 ^ (k - suc i + (1 + i))) 1 i)
   where
