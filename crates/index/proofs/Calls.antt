@@ -57,14 +57,17 @@ mut-mut-ended R₀ R₁ Q ss ks = record { signature = record { lifetimes = 2; o
 abbrev pub mut-shr-ended : (R₀ R₁ Q : RattleType) (ss : List (Slot 2)) → Kepts ss → Ended
 mut-shr-ended R₀ R₁ Q ss ks = record { signature = record { lifetimes = 2; outlives = []; params = mutSliceOf (0 ∷ []) tt (plain (λ _. R₀)) ∷ shrSliceOf (1 ∷ []) tt (plain (λ _. R₁)) ∷ ss; result = plain (λ _. Q) }; kept = (yes, (yes, ks)) }
 
-abbrev pub shr-shr-ended : (R₀ R₁ Q : RattleType) (ss : List (Slot 2)) → Kepts ss → Ended
-shr-shr-ended R₀ R₁ Q ss ks = record { signature = record { lifetimes = 2; outlives = []; params = shrSliceOf (0 ∷ []) tt (plain (λ _. R₀)) ∷ shrSliceOf (1 ∷ []) tt (plain (λ _. R₁)) ∷ ss; result = plain (λ _. Q) }; kept = (yes, (yes, ks)) }
-
 abbrev pub shr-mut-ended : (R₀ R₁ Q : RattleType) (ss : List (Slot 2)) → Kepts ss → Ended
 shr-mut-ended R₀ R₁ Q ss ks = record { signature = record { lifetimes = 2; outlives = []; params = shrSliceOf (0 ∷ []) tt (plain (λ _. R₀)) ∷ mutSliceOf (1 ∷ []) tt (plain (λ _. R₁)) ∷ ss; result = plain (λ _. Q) }; kept = (yes, (yes, ks)) }
 
+abbrev pub shr-shr-ended : (R₀ R₁ Q : RattleType) (ss : List (Slot 2)) → Kepts ss → Ended
+shr-shr-ended R₀ R₁ Q ss ks = record { signature = record { lifetimes = 2; outlives = []; params = shrSliceOf (0 ∷ []) tt (plain (λ _. R₀)) ∷ shrSliceOf (1 ∷ []) tt (plain (λ _. R₁)) ∷ ss; result = plain (λ _. Q) }; kept = (yes, (yes, ks)) }
+
 abbrev pub mut-mut-shr-ended : (R₀ R₁ R₂ Q : RattleType) (ss : List (Slot 3)) → Kepts ss → Ended
 mut-mut-shr-ended R₀ R₁ R₂ Q ss ks = record { signature = record { lifetimes = 3; outlives = []; params = mutSliceOf (0 ∷ []) tt (plain (λ _. R₀)) ∷ mutSliceOf (1 ∷ []) tt (plain (λ _. R₁)) ∷ shrSliceOf (2 ∷ []) tt (plain (λ _. R₂)) ∷ ss; result = plain (λ _. Q) }; kept = (yes, (yes, (yes, ks))) }
+
+abbrev pub shr-shr-mut-ended : (R₀ R₁ R₂ Q : RattleType) (ss : List (Slot 3)) → Kepts ss → Ended
+shr-shr-mut-ended R₀ R₁ R₂ Q ss ks = record { signature = record { lifetimes = 3; outlives = []; params = shrSliceOf (0 ∷ []) tt (plain (λ _. R₀)) ∷ shrSliceOf (1 ∷ []) tt (plain (λ _. R₁)) ∷ mutSliceOf (2 ∷ []) tt (plain (λ _. R₂)) ∷ ss; result = plain (λ _. Q) }; kept = (yes, (yes, (yes, ks))) }
 
 module _ {M : Type 1} {𝓤 : URA M} {H : Heap 𝓤} {A : Atoms 𝓤} {K : Type 0} {W : Given 𝓤 H A} {Γ : List (Item 𝓤)} {E : Env 𝓤 H} {C : Calls 𝓤 H} {f : Name} {xs : List Operand} {Λ : Loops 𝓤 H} {p : Post 𝓤 H} {d : Place} {rest : Body} where
   pub calls-plain : K → FmC 𝓤 H (W .laws) C → (Q : RattleType) (ss : List (Slot 0)) (ks : Kepts ss) (c : Clauses 𝓤 (plain-ended Q ss ks)) → Triple 𝓤 (C f) (contractOf 𝓤 H A (plain-ended Q ss ks) c)
@@ -261,6 +264,40 @@ module _ {M : Type 1} {𝓤 : URA M} {H : Heap 𝓤} {A : Atoms 𝓤} {K : Type 
           qed W (‵ (fsep (flft (κs .0) fullShare) (fsep (flft (κs .1 .0) q₁) (fsep (MutSlice (named 0) (κs .0) R₀ .own (ref b₀ o₀ δ₀ ys₀) (sliceVal (b₀, o₀) n₀ ∷ [])) (ShrSlice (named 0) (κs .1 .0) R₁ .own (ref b₁ o₁ δ₁ ys₁) (sliceVal (b₁, o₁) n₁ ∷ []))))) ∷ []) ∵ fsplit ! $ move ! (1 ∷ []) $ fsplit ! $ move ! (1 ∷ []) $ fsplit ! $
           use0 W (raw (c κs (ref b₀ o₀ δ₀ ys₀, (ref b₁ o₁ δ₁ ys₁, a κs)) .requires (g κs δ₀ δ₁))) (req κs δ₀ δ₁) $ use0 W (‵ (owns (typesAt ss κs) (a κs) (vss κs))) (own κs) $ move ! (3 ∷ 0 ∷ []) $ fjoin ! $ move ! (2 ∷ 0 ∷ []) $ fjoin ! $ nothing ! $ move ! (3 ∷ 0 ∷ []) $ join ! $ move ! (3 ∷ 0 ∷ []) $ join ! $ join ! $ frame ! $ done !
 
+  pub calls-shr-mut : K → FmC 𝓤 H (W .laws) C → (R₀ R₁ Q : RattleType) (ss : List (Slot 2)) (ks : Kepts ss) (c : Clauses 𝓤 (shr-mut-ended R₀ R₁ Q ss ks)) → Triple 𝓤 (C f) (contractOf 𝓤 H A (shr-mut-ended R₀ R₁ Q ss ks) c)
+      → {κ₀ : Lft} {q₀ : Share} (b₀ o₀ : ℕ) (γ₀ : GName) (ys₀ : List (R₀ .Denot)) (n₀ : ℕ) → length ys₀ ≡ n₀
+      → {κ₁ : Lft} {q₁ : Share} (b₁ o₁ : ℕ) (γ₁ : GName) (ys₁ : List (R₁ .Denot)) (n₁ : ℕ) → length ys₁ ≡ n₁
+      → (a : (κs : Lfts 2) → Denots (typesAt ss κs)) (vss : (κs : Lfts 2) → Valss (typesAt ss κs)) → ((κs : Lfts 2) → ent 𝓤 (emp 𝓤) (sem 𝓤 H A (owns (typesAt ss κs) (a κs) (vss κs))))
+      → (g : (κs : Lfts 2) (δ₀ δ₁ : GName) → c κs (ref b₀ o₀ δ₀ ys₀, (ref b₁ o₁ δ₁ ys₁, a κs)) .ghost) → ((κs : Lfts 2) (δ₀ δ₁ : GName) → ent 𝓤 (emp 𝓤) (c κs (ref b₀ o₀ δ₀ ys₀, (ref b₁ o₁ δ₁ ys₁, a κs)) .requires (g κs δ₀ δ₁)))
+      → (ψ : Q .Denot → List (R₁ .Denot) → Type 0) → ((κs : Lfts 2) (δ₀ δ₁ : GName) (r : Q .Denot) (ws : Lasts (shr-mut-ended R₀ R₁ Q ss ks) κs (ref b₀ o₀ δ₀ ys₀, (ref b₁ o₁ δ₁ ys₁, a κs))) → ent 𝓤 (c κs (ref b₀ o₀ δ₀ ys₀, (ref b₁ o₁ δ₁ ys₁, a κs)) .ensures (g κs δ₀ δ₁) r (atExit (shr-mut-ended R₀ R₁ Q ss ks) κs (ref b₀ o₀ δ₀ ys₀, (ref b₁ o₁ δ₁ ys₁, a κs)) ws)) (fact 𝓤 (ψ r (ws .1 .0))))
+      → ((κs : Lfts 2) (δ₀ δ₁ : GName) → Opds K W (raw (contractOf 𝓤 H A (shr-mut-ended R₀ R₁ Q ss ks) c .pre ((κs, (q₀, (fullShare, tt)), tt, (ref b₀ o₀ δ₀ ys₀, (ref b₁ o₁ δ₁ ys₁, a κs)), (sliceVal (b₀, o₀) n₀ ∷ [], (sliceVal (b₁, o₁) n₁ ∷ [], vss κs))), g κs δ₀ δ₁)) ∷ ‵ ftrue ∷ ‵ (ShrSlice (named 0) κ₀ R₀ .own (ref b₀ o₀ γ₀ ys₀) (sliceVal (b₀, o₀) n₀ ∷ [])) ∷ ‵ (LentAgain R₁ κ₁ (κs .1 .0) q₁ γ₁ b₁ o₁ δ₁ ys₁) ∷ Γ) E xs (sliceVal (b₀, o₀) n₀ ∷ sliceVal (b₁, o₁) n₁ ∷ flat (typesAt ss κs) (vss κs)))
+      → ((u : Val) (r : Q .Denot) (zs₁ : List (R₁ .Denot)) → length zs₁ ≡ n₁ → ψ r zs₁ → Is Q r (u ∷ []) → Seq K W (‵ (flft κ₀ q₀) ∷ ‵ (ShrSlice (named 0) κ₀ R₀ .own (ref b₀ o₀ γ₀ ys₀) (sliceVal (b₀, o₀) n₀ ∷ [])) ∷ ‵ (flft κ₁ q₁) ∷ ‵ (MutSlice (named 0) κ₁ R₁ .own (ref b₁ o₁ γ₁ zs₁) (sliceVal (b₁, o₁) n₁ ∷ [])) ∷ Γ) (lands C Λ E d u rest p))
+      → Seq K W (‵ (flft κ₀ q₀) ∷ ‵ (ShrSlice (named 0) κ₀ R₀ .own (ref b₀ o₀ γ₀ ys₀) (sliceVal (b₀, o₀) n₀ ∷ [])) ∷ ‵ (flft κ₁ q₁) ∷ ‵ (MutSlice (named 0) κ₁ R₁ .own (ref b₁ o₁ γ₁ ys₁) (sliceVal (b₁, o₁) n₁ ∷ [])) ∷ Γ) (runs C Λ E (seq (call f xs d) rest) p)
+  calls-shr-mut t fm R₀ R₁ Q ss ks c known {κ₀} {q₀} b₀ o₀ γ₀ ys₀ n₀ en₀ {κ₁} {q₁} b₁ o₁ γ₁ ys₁ n₁ en₁ a vss own g req ψ ens os k =
+      lend-shr t R₀ (ref b₀ o₀ γ₀ ys₀) (sliceVal (b₀, o₀) n₀ ∷ []) (
+      move t (3 ∷ 4 ∷ []) $ lend-mut t tt R₁ b₁ o₁ γ₁ ys₁ n₁ en₁ (λ ν₁ δ₁ room₁.
+      move t (1 ∷ 4 ∷ 0 ∷ 3 ∷ []) $ move t (1 ∷ 0 ∷ []) $ fjoin t $ move t (1 ∷ 0 ∷ []) $ fjoin t $ move t (1 ∷ 0 ∷ []) $ fjoin t $ use1 W (raw (pre (κ₀, (ν₁ ∷ [], tt)) γ₀ δ₁)) (goes (κ₀, (ν₁ ∷ [], tt)) γ₀ δ₁) $ nothing t $ move t (1 ∷ 0 ∷ 3 ∷ 2 ∷ []) $
+      calls-at t fm (contractOf 𝓤 H A (shr-mut-ended R₀ R₁ Q ss ks) c) known (y (κ₀, (ν₁ ∷ [], tt)) γ₀ δ₁) (os (κ₀, (ν₁ ∷ [], tt)) γ₀ δ₁) (λ u.
+      use1 W (later (some (λ (r : Q .Denot). ((‵ (flft κ₀ q₀) ⊛ (‵ (flft (ν₁ ∷ []) fullShare) ⊛ ‵ ftrue)) ⊛ ‵ (Q .own r (u ∷ []))) ⊛ raw (ensured 𝓤 H A (shr-mut-ended R₀ R₁ Q ss ks) c (κ₀, (ν₁ ∷ [], tt)) (args (κ₀, (ν₁ ∷ [], tt)) γ₀ δ₁) (g (κ₀, (ν₁ ∷ [], tt)) γ₀ δ₁) r)))) (id⊢ 𝓤 _) $ await t tt $ pick t (λ r. split t $ move t (1 ∷ []) $
+      use1 W (some (λ (ws : Lasts (shr-mut-ended R₀ R₁ Q ss ks) (κ₀, (ν₁ ∷ [], tt)) (args (κ₀, (ν₁ ∷ [], tt)) γ₀ δ₁)). ‵ (lasts (shr-mut-ended R₀ R₁ Q ss ks) (κ₀, (ν₁ ∷ [], tt)) (args (κ₀, (ν₁ ∷ [], tt)) γ₀ δ₁) ws) ⊛ raw (c (κ₀, (ν₁ ∷ [], tt)) (args (κ₀, (ν₁ ∷ [], tt)) γ₀ δ₁) .ensures (g (κ₀, (ν₁ ∷ [], tt)) γ₀ δ₁) r (atExit (shr-mut-ended R₀ R₁ Q ss ks) (κ₀, (ν₁ ∷ [], tt)) (args (κ₀, (ν₁ ∷ [], tt)) γ₀ δ₁) ws)))) (id⊢ 𝓤 _) $ pick t (λ ws. split t $ move t (1 ∷ []) $
+      use1 W (raw (fact 𝓤 (ψ r (ws .1 .0)))) (ens (κ₀, (ν₁ ∷ [], tt)) γ₀ δ₁ r ws) $ heard t (ψ r (ws .1 .0)) (λ e.
+      fsplit t $ drop t $ fsplit t $ fsplit t $ move t (1 ∷ []) $ feqL t (λ l₁. move t (1 ∷ []) $ drop t $ move t (1 ∷ []) $ split t $ move t (1 ∷ []) $ peeks t Q (Is Q) (shows 𝓤 H A Q) r (u ∷ []) (λ is. drop t $ split t $ move t (1 ∷ []) $ split t $ move t (1 ∷ []) $ drop t $
+      move t (0 ∷ 5 ∷ 2 ∷ []) $ back-mut t tt R₁ b₁ o₁ γ₁ ys₁ n₁ en₁ ν₁ δ₁ room₁ (ws .1 .0) l₁ (move t (3 ∷ []) $ drop t $ move t (2 ∷ 3 ∷ 0 ∷ 1 ∷ []) $ k u r (ws .1 .0) (l₁ ∙ en₁) e is)))))))))
+    where
+      args : (κs : Lfts 2) (δ₀ δ₁ : GName) → Args ((shr-mut-ended R₀ R₁ Q ss ks) .signature) κs
+      args κs δ₀ δ₁ = (ref b₀ o₀ δ₀ ys₀, (ref b₁ o₁ δ₁ ys₁, a κs))
+
+      y : (κs : Lfts 2) (δ₀ δ₁ : GName) → contractOf 𝓤 H A (shr-mut-ended R₀ R₁ Q ss ks) c .Ghost
+      y κs δ₀ δ₁ = ((κs, (q₀, (fullShare, tt)), tt, (ref b₀ o₀ δ₀ ys₀, (ref b₁ o₁ δ₁ ys₁, a κs)), (sliceVal (b₀, o₀) n₀ ∷ [], (sliceVal (b₁, o₁) n₁ ∷ [], vss κs))), g κs δ₀ δ₁)
+
+      pre : (κs : Lfts 2) (δ₀ δ₁ : GName) → SProp 𝓤
+      pre κs δ₀ δ₁ = contractOf 𝓤 H A (shr-mut-ended R₀ R₁ Q ss ks) c .pre (y κs δ₀ δ₁)
+
+      goes : (κs : Lfts 2) (δ₀ δ₁ : GName) → ent 𝓤 (sem 𝓤 H A (fsep (flft (κs .0) q₀) (fsep (flft (κs .1 .0) fullShare) (fsep (ShrSlice (named 0) (κs .0) R₀ .own (ref b₀ o₀ δ₀ ys₀) (sliceVal (b₀, o₀) n₀ ∷ [])) (MutSlice (named 0) (κs .1 .0) R₁ .own (ref b₁ o₁ δ₁ ys₁) (sliceVal (b₁, o₁) n₁ ∷ [])))))) (pre κs δ₀ δ₁)
+      goes κs δ₀ δ₁ =
+          qed W (‵ (fsep (flft (κs .0) q₀) (fsep (flft (κs .1 .0) fullShare) (fsep (ShrSlice (named 0) (κs .0) R₀ .own (ref b₀ o₀ δ₀ ys₀) (sliceVal (b₀, o₀) n₀ ∷ [])) (MutSlice (named 0) (κs .1 .0) R₁ .own (ref b₁ o₁ δ₁ ys₁) (sliceVal (b₁, o₁) n₁ ∷ []))))) ∷ []) ∵ fsplit ! $ move ! (1 ∷ []) $ fsplit ! $ move ! (1 ∷ []) $ fsplit ! $
+          use0 W (raw (c κs (ref b₀ o₀ δ₀ ys₀, (ref b₁ o₁ δ₁ ys₁, a κs)) .requires (g κs δ₀ δ₁))) (req κs δ₀ δ₁) $ use0 W (‵ (owns (typesAt ss κs) (a κs) (vss κs))) (own κs) $ move ! (3 ∷ 0 ∷ []) $ fjoin ! $ move ! (2 ∷ 0 ∷ []) $ fjoin ! $ nothing ! $ move ! (3 ∷ 0 ∷ []) $ join ! $ move ! (3 ∷ 0 ∷ []) $ join ! $ join ! $ frame ! $ done !
+
   pub calls-shr-shr : K → FmC 𝓤 H (W .laws) C → (R₀ R₁ Q : RattleType) (ss : List (Slot 2)) (ks : Kepts ss) (c : Clauses 𝓤 (shr-shr-ended R₀ R₁ Q ss ks)) → Triple 𝓤 (C f) (contractOf 𝓤 H A (shr-shr-ended R₀ R₁ Q ss ks) c)
       → {κ₀ : Lft} {q₀ : Share} (b₀ o₀ : ℕ) (γ₀ : GName) (ys₀ : List (R₀ .Denot)) (n₀ : ℕ) → length ys₀ ≡ n₀
       → {κ₁ : Lft} {q₁ : Share} (b₁ o₁ : ℕ) (γ₁ : GName) (ys₁ : List (R₁ .Denot)) (n₁ : ℕ) → length ys₁ ≡ n₁
@@ -399,6 +436,42 @@ module _ {M : Type 1} {𝓤 : URA M} {H : Heap 𝓤} {A : Atoms 𝓤} {K : Type 
           qed W (‵ (fsep (flft (κs .0) fullShare) (fsep (flft (κs .1 .0) fullShare) (fsep (flft (κs .1 .1 .0) q₂) (fsep (MutSlice (named 0) (κs .0) R₀ .own (ref b₀ o₀ δ₀ ys₀) (sliceVal (b₀, o₀) n₀ ∷ [])) (fsep (MutSlice (named 0) (κs .1 .0) R₁ .own (ref b₁ o₁ δ₁ ys₁) (sliceVal (b₁, o₁) n₁ ∷ [])) (ShrSlice (named 0) (κs .1 .1 .0) R₂ .own (ref b₂ o₂ δ₂ ys₂) (sliceVal (b₂, o₂) n₂ ∷ []))))))) ∷ []) ∵ fsplit ! $ move ! (1 ∷ []) $ fsplit ! $ move ! (1 ∷ []) $ fsplit ! $ move ! (1 ∷ []) $ fsplit ! $ move ! (1 ∷ []) $ fsplit ! $
           use0 W (raw (c κs (ref b₀ o₀ δ₀ ys₀, (ref b₁ o₁ δ₁ ys₁, (ref b₂ o₂ δ₂ ys₂, a κs))) .requires (g κs δ₀ δ₁ δ₂))) (req κs δ₀ δ₁ δ₂) $ use0 W (‵ (owns (typesAt ss κs) (a κs) (vss κs))) (own κs) $ move ! (3 ∷ 0 ∷ []) $ fjoin ! $ move ! (2 ∷ 0 ∷ []) $ fjoin ! $ move ! (2 ∷ 0 ∷ []) $ fjoin ! $ nothing ! $ move ! (3 ∷ 0 ∷ []) $ join ! $ move ! (3 ∷ 0 ∷ []) $ join ! $ move ! (3 ∷ 0 ∷ []) $ join ! $ join ! $ frame ! $ done !
 
+  pub calls-shr-shr-mut : K → FmC 𝓤 H (W .laws) C → (R₀ R₁ R₂ Q : RattleType) (ss : List (Slot 3)) (ks : Kepts ss) (c : Clauses 𝓤 (shr-shr-mut-ended R₀ R₁ R₂ Q ss ks)) → Triple 𝓤 (C f) (contractOf 𝓤 H A (shr-shr-mut-ended R₀ R₁ R₂ Q ss ks) c)
+      → {κ₀ : Lft} {q₀ : Share} (b₀ o₀ : ℕ) (γ₀ : GName) (ys₀ : List (R₀ .Denot)) (n₀ : ℕ) → length ys₀ ≡ n₀
+      → {κ₁ : Lft} {q₁ : Share} (b₁ o₁ : ℕ) (γ₁ : GName) (ys₁ : List (R₁ .Denot)) (n₁ : ℕ) → length ys₁ ≡ n₁
+      → {κ₂ : Lft} {q₂ : Share} (b₂ o₂ : ℕ) (γ₂ : GName) (ys₂ : List (R₂ .Denot)) (n₂ : ℕ) → length ys₂ ≡ n₂
+      → (a : (κs : Lfts 3) → Denots (typesAt ss κs)) (vss : (κs : Lfts 3) → Valss (typesAt ss κs)) → ((κs : Lfts 3) → ent 𝓤 (emp 𝓤) (sem 𝓤 H A (owns (typesAt ss κs) (a κs) (vss κs))))
+      → (g : (κs : Lfts 3) (δ₀ δ₁ δ₂ : GName) → c κs (ref b₀ o₀ δ₀ ys₀, (ref b₁ o₁ δ₁ ys₁, (ref b₂ o₂ δ₂ ys₂, a κs))) .ghost) → ((κs : Lfts 3) (δ₀ δ₁ δ₂ : GName) → ent 𝓤 (emp 𝓤) (c κs (ref b₀ o₀ δ₀ ys₀, (ref b₁ o₁ δ₁ ys₁, (ref b₂ o₂ δ₂ ys₂, a κs))) .requires (g κs δ₀ δ₁ δ₂)))
+      → (ψ : Q .Denot → List (R₂ .Denot) → Type 0) → ((κs : Lfts 3) (δ₀ δ₁ δ₂ : GName) (r : Q .Denot) (ws : Lasts (shr-shr-mut-ended R₀ R₁ R₂ Q ss ks) κs (ref b₀ o₀ δ₀ ys₀, (ref b₁ o₁ δ₁ ys₁, (ref b₂ o₂ δ₂ ys₂, a κs)))) → ent 𝓤 (c κs (ref b₀ o₀ δ₀ ys₀, (ref b₁ o₁ δ₁ ys₁, (ref b₂ o₂ δ₂ ys₂, a κs))) .ensures (g κs δ₀ δ₁ δ₂) r (atExit (shr-shr-mut-ended R₀ R₁ R₂ Q ss ks) κs (ref b₀ o₀ δ₀ ys₀, (ref b₁ o₁ δ₁ ys₁, (ref b₂ o₂ δ₂ ys₂, a κs))) ws)) (fact 𝓤 (ψ r (ws .1 .1 .0))))
+      → ((κs : Lfts 3) (δ₀ δ₁ δ₂ : GName) → Opds K W (raw (contractOf 𝓤 H A (shr-shr-mut-ended R₀ R₁ R₂ Q ss ks) c .pre ((κs, (q₀, (q₁, (fullShare, tt))), tt, (ref b₀ o₀ δ₀ ys₀, (ref b₁ o₁ δ₁ ys₁, (ref b₂ o₂ δ₂ ys₂, a κs))), (sliceVal (b₀, o₀) n₀ ∷ [], (sliceVal (b₁, o₁) n₁ ∷ [], (sliceVal (b₂, o₂) n₂ ∷ [], vss κs)))), g κs δ₀ δ₁ δ₂)) ∷ ‵ ftrue ∷ ‵ ftrue ∷ ‵ (ShrSlice (named 0) κ₀ R₀ .own (ref b₀ o₀ γ₀ ys₀) (sliceVal (b₀, o₀) n₀ ∷ [])) ∷ ‵ (ShrSlice (named 0) κ₁ R₁ .own (ref b₁ o₁ γ₁ ys₁) (sliceVal (b₁, o₁) n₁ ∷ [])) ∷ ‵ (LentAgain R₂ κ₂ (κs .1 .1 .0) q₂ γ₂ b₂ o₂ δ₂ ys₂) ∷ Γ) E xs (sliceVal (b₀, o₀) n₀ ∷ sliceVal (b₁, o₁) n₁ ∷ sliceVal (b₂, o₂) n₂ ∷ flat (typesAt ss κs) (vss κs)))
+      → ((u : Val) (r : Q .Denot) (zs₂ : List (R₂ .Denot)) → length zs₂ ≡ n₂ → ψ r zs₂ → Is Q r (u ∷ []) → Seq K W (‵ (flft κ₀ q₀) ∷ ‵ (ShrSlice (named 0) κ₀ R₀ .own (ref b₀ o₀ γ₀ ys₀) (sliceVal (b₀, o₀) n₀ ∷ [])) ∷ ‵ (flft κ₁ q₁) ∷ ‵ (ShrSlice (named 0) κ₁ R₁ .own (ref b₁ o₁ γ₁ ys₁) (sliceVal (b₁, o₁) n₁ ∷ [])) ∷ ‵ (flft κ₂ q₂) ∷ ‵ (MutSlice (named 0) κ₂ R₂ .own (ref b₂ o₂ γ₂ zs₂) (sliceVal (b₂, o₂) n₂ ∷ [])) ∷ Γ) (lands C Λ E d u rest p))
+      → Seq K W (‵ (flft κ₀ q₀) ∷ ‵ (ShrSlice (named 0) κ₀ R₀ .own (ref b₀ o₀ γ₀ ys₀) (sliceVal (b₀, o₀) n₀ ∷ [])) ∷ ‵ (flft κ₁ q₁) ∷ ‵ (ShrSlice (named 0) κ₁ R₁ .own (ref b₁ o₁ γ₁ ys₁) (sliceVal (b₁, o₁) n₁ ∷ [])) ∷ ‵ (flft κ₂ q₂) ∷ ‵ (MutSlice (named 0) κ₂ R₂ .own (ref b₂ o₂ γ₂ ys₂) (sliceVal (b₂, o₂) n₂ ∷ [])) ∷ Γ) (runs C Λ E (seq (call f xs d) rest) p)
+  calls-shr-shr-mut t fm R₀ R₁ R₂ Q ss ks c known {κ₀} {q₀} b₀ o₀ γ₀ ys₀ n₀ en₀ {κ₁} {q₁} b₁ o₁ γ₁ ys₁ n₁ en₁ {κ₂} {q₂} b₂ o₂ γ₂ ys₂ n₂ en₂ a vss own g req ψ ens os k =
+      lend-shr t R₀ (ref b₀ o₀ γ₀ ys₀) (sliceVal (b₀, o₀) n₀ ∷ []) (
+      move t (3 ∷ 4 ∷ []) $ lend-shr t R₁ (ref b₁ o₁ γ₁ ys₁) (sliceVal (b₁, o₁) n₁ ∷ []) (
+      move t (6 ∷ 7 ∷ []) $ lend-mut t tt R₂ b₂ o₂ γ₂ ys₂ n₂ en₂ (λ ν₂ δ₂ room₂.
+      move t (1 ∷ 4 ∷ 7 ∷ 0 ∷ 3 ∷ 6 ∷ []) $ move t (1 ∷ 0 ∷ []) $ fjoin t $ move t (1 ∷ 0 ∷ []) $ fjoin t $ move t (1 ∷ 0 ∷ []) $ fjoin t $ move t (1 ∷ 0 ∷ []) $ fjoin t $ move t (1 ∷ 0 ∷ []) $ fjoin t $ use1 W (raw (pre (κ₀, (κ₁, (ν₂ ∷ [], tt))) γ₀ γ₁ δ₂)) (goes (κ₀, (κ₁, (ν₂ ∷ [], tt))) γ₀ γ₁ δ₂) $ nothing t $ nothing t $ move t (2 ∷ 1 ∷ 0 ∷ 5 ∷ 4 ∷ 3 ∷ []) $
+      calls-at t fm (contractOf 𝓤 H A (shr-shr-mut-ended R₀ R₁ R₂ Q ss ks) c) known (y (κ₀, (κ₁, (ν₂ ∷ [], tt))) γ₀ γ₁ δ₂) (os (κ₀, (κ₁, (ν₂ ∷ [], tt))) γ₀ γ₁ δ₂) (λ u.
+      use1 W (later (some (λ (r : Q .Denot). ((‵ (flft κ₀ q₀) ⊛ (‵ (flft κ₁ q₁) ⊛ (‵ (flft (ν₂ ∷ []) fullShare) ⊛ ‵ ftrue))) ⊛ ‵ (Q .own r (u ∷ []))) ⊛ raw (ensured 𝓤 H A (shr-shr-mut-ended R₀ R₁ R₂ Q ss ks) c (κ₀, (κ₁, (ν₂ ∷ [], tt))) (args (κ₀, (κ₁, (ν₂ ∷ [], tt))) γ₀ γ₁ δ₂) (g (κ₀, (κ₁, (ν₂ ∷ [], tt))) γ₀ γ₁ δ₂) r)))) (id⊢ 𝓤 _) $ await t tt $ pick t (λ r. split t $ move t (1 ∷ []) $
+      use1 W (some (λ (ws : Lasts (shr-shr-mut-ended R₀ R₁ R₂ Q ss ks) (κ₀, (κ₁, (ν₂ ∷ [], tt))) (args (κ₀, (κ₁, (ν₂ ∷ [], tt))) γ₀ γ₁ δ₂)). ‵ (lasts (shr-shr-mut-ended R₀ R₁ R₂ Q ss ks) (κ₀, (κ₁, (ν₂ ∷ [], tt))) (args (κ₀, (κ₁, (ν₂ ∷ [], tt))) γ₀ γ₁ δ₂) ws) ⊛ raw (c (κ₀, (κ₁, (ν₂ ∷ [], tt))) (args (κ₀, (κ₁, (ν₂ ∷ [], tt))) γ₀ γ₁ δ₂) .ensures (g (κ₀, (κ₁, (ν₂ ∷ [], tt))) γ₀ γ₁ δ₂) r (atExit (shr-shr-mut-ended R₀ R₁ R₂ Q ss ks) (κ₀, (κ₁, (ν₂ ∷ [], tt))) (args (κ₀, (κ₁, (ν₂ ∷ [], tt))) γ₀ γ₁ δ₂) ws)))) (id⊢ 𝓤 _) $ pick t (λ ws. split t $ move t (1 ∷ []) $
+      use1 W (raw (fact 𝓤 (ψ r (ws .1 .1 .0)))) (ens (κ₀, (κ₁, (ν₂ ∷ [], tt))) γ₀ γ₁ δ₂ r ws) $ heard t (ψ r (ws .1 .1 .0)) (λ e.
+      fsplit t $ drop t $ fsplit t $ drop t $ fsplit t $ fsplit t $ move t (1 ∷ []) $ feqL t (λ l₂. move t (1 ∷ []) $ drop t $ move t (1 ∷ []) $ split t $ move t (1 ∷ []) $ peeks t Q (Is Q) (shows 𝓤 H A Q) r (u ∷ []) (λ is. drop t $ split t $ move t (1 ∷ []) $ split t $ move t (1 ∷ []) $ split t $ move t (1 ∷ []) $ drop t $
+      move t (0 ∷ 8 ∷ 3 ∷ []) $ back-mut t tt R₂ b₂ o₂ γ₂ ys₂ n₂ en₂ ν₂ δ₂ room₂ (ws .1 .1 .0) l₂ (move t (4 ∷ []) $ drop t $ move t (4 ∷ []) $ drop t $ move t (3 ∷ 4 ∷ 2 ∷ 5 ∷ 0 ∷ 1 ∷ []) $ k u r (ws .1 .1 .0) (l₂ ∙ en₂) e is))))))))))
+    where
+      args : (κs : Lfts 3) (δ₀ δ₁ δ₂ : GName) → Args ((shr-shr-mut-ended R₀ R₁ R₂ Q ss ks) .signature) κs
+      args κs δ₀ δ₁ δ₂ = (ref b₀ o₀ δ₀ ys₀, (ref b₁ o₁ δ₁ ys₁, (ref b₂ o₂ δ₂ ys₂, a κs)))
+
+      y : (κs : Lfts 3) (δ₀ δ₁ δ₂ : GName) → contractOf 𝓤 H A (shr-shr-mut-ended R₀ R₁ R₂ Q ss ks) c .Ghost
+      y κs δ₀ δ₁ δ₂ = ((κs, (q₀, (q₁, (fullShare, tt))), tt, (ref b₀ o₀ δ₀ ys₀, (ref b₁ o₁ δ₁ ys₁, (ref b₂ o₂ δ₂ ys₂, a κs))), (sliceVal (b₀, o₀) n₀ ∷ [], (sliceVal (b₁, o₁) n₁ ∷ [], (sliceVal (b₂, o₂) n₂ ∷ [], vss κs)))), g κs δ₀ δ₁ δ₂)
+
+      pre : (κs : Lfts 3) (δ₀ δ₁ δ₂ : GName) → SProp 𝓤
+      pre κs δ₀ δ₁ δ₂ = contractOf 𝓤 H A (shr-shr-mut-ended R₀ R₁ R₂ Q ss ks) c .pre (y κs δ₀ δ₁ δ₂)
+
+      goes : (κs : Lfts 3) (δ₀ δ₁ δ₂ : GName) → ent 𝓤 (sem 𝓤 H A (fsep (flft (κs .0) q₀) (fsep (flft (κs .1 .0) q₁) (fsep (flft (κs .1 .1 .0) fullShare) (fsep (ShrSlice (named 0) (κs .0) R₀ .own (ref b₀ o₀ δ₀ ys₀) (sliceVal (b₀, o₀) n₀ ∷ [])) (fsep (ShrSlice (named 0) (κs .1 .0) R₁ .own (ref b₁ o₁ δ₁ ys₁) (sliceVal (b₁, o₁) n₁ ∷ [])) (MutSlice (named 0) (κs .1 .1 .0) R₂ .own (ref b₂ o₂ δ₂ ys₂) (sliceVal (b₂, o₂) n₂ ∷ [])))))))) (pre κs δ₀ δ₁ δ₂)
+      goes κs δ₀ δ₁ δ₂ =
+          qed W (‵ (fsep (flft (κs .0) q₀) (fsep (flft (κs .1 .0) q₁) (fsep (flft (κs .1 .1 .0) fullShare) (fsep (ShrSlice (named 0) (κs .0) R₀ .own (ref b₀ o₀ δ₀ ys₀) (sliceVal (b₀, o₀) n₀ ∷ [])) (fsep (ShrSlice (named 0) (κs .1 .0) R₁ .own (ref b₁ o₁ δ₁ ys₁) (sliceVal (b₁, o₁) n₁ ∷ [])) (MutSlice (named 0) (κs .1 .1 .0) R₂ .own (ref b₂ o₂ δ₂ ys₂) (sliceVal (b₂, o₂) n₂ ∷ []))))))) ∷ []) ∵ fsplit ! $ move ! (1 ∷ []) $ fsplit ! $ move ! (1 ∷ []) $ fsplit ! $ move ! (1 ∷ []) $ fsplit ! $ move ! (1 ∷ []) $ fsplit ! $
+          use0 W (raw (c κs (ref b₀ o₀ δ₀ ys₀, (ref b₁ o₁ δ₁ ys₁, (ref b₂ o₂ δ₂ ys₂, a κs))) .requires (g κs δ₀ δ₁ δ₂))) (req κs δ₀ δ₁ δ₂) $ use0 W (‵ (owns (typesAt ss κs) (a κs) (vss κs))) (own κs) $ move ! (3 ∷ 0 ∷ []) $ fjoin ! $ move ! (2 ∷ 0 ∷ []) $ fjoin ! $ move ! (2 ∷ 0 ∷ []) $ fjoin ! $ nothing ! $ move ! (3 ∷ 0 ∷ []) $ join ! $ move ! (3 ∷ 0 ∷ []) $ join ! $ move ! (3 ∷ 0 ∷ []) $ join ! $ join ! $ frame ! $ done !
+
 module _ {M : Type 1} {𝓤 : URA M} {H : Heap 𝓤} {A : Atoms 𝓤} {K : Type 0} {W : Given 𝓤 H A} {Γ : List (Item 𝓤)} {E : Env 𝓤 H} {C : Calls 𝓤 H} {f : Name} {xs : List Operand} {Λ : Loops 𝓤 H} {p : Post 𝓤 H} {d : Place} where
   pub calls-plain-last : K → FmC 𝓤 H (W .laws) C → (Q : RattleType) (ss : List (Slot 0)) (ks : Kepts ss) (c : Clauses 𝓤 (plain-ended Q ss ks)) → Triple 𝓤 (C f) (contractOf 𝓤 H A (plain-ended Q ss ks) c)
       → (a : (κs : Lfts 0) → Denots (typesAt ss κs)) (vss : (κs : Lfts 0) → Valss (typesAt ss κs)) → ((κs : Lfts 0) → ent 𝓤 (emp 𝓤) (sem 𝓤 H A (owns (typesAt ss κs) (a κs) (vss κs))))
@@ -463,3 +536,39 @@ module _ {M : Type 1} {𝓤 : URA M} {H : Heap 𝓤} {A : Atoms 𝓤} {K : Type 
       goes κs δ₀ δ₁ =
           qed W (‵ (fsep (flft (κs .0) q₀) (fsep (flft (κs .1 .0) fullShare) (fsep (ShrSlice (named 0) (κs .0) R₀ .own (ref b₀ o₀ δ₀ ys₀) (sliceVal (b₀, o₀) n₀ ∷ [])) (MutSlice (named 0) (κs .1 .0) R₁ .own (ref b₁ o₁ δ₁ ys₁) (sliceVal (b₁, o₁) n₁ ∷ []))))) ∷ []) ∵ fsplit ! $ move ! (1 ∷ []) $ fsplit ! $ move ! (1 ∷ []) $ fsplit ! $
           use0 W (raw (c κs (ref b₀ o₀ δ₀ ys₀, (ref b₁ o₁ δ₁ ys₁, a κs)) .requires (g κs δ₀ δ₁))) (req κs δ₀ δ₁) $ use0 W (‵ (owns (typesAt ss κs) (a κs) (vss κs))) (own κs) $ move ! (3 ∷ 0 ∷ []) $ fjoin ! $ move ! (2 ∷ 0 ∷ []) $ fjoin ! $ nothing ! $ move ! (3 ∷ 0 ∷ []) $ join ! $ move ! (3 ∷ 0 ∷ []) $ join ! $ join ! $ frame ! $ done !
+
+  pub calls-shr-shr-mut-last : K → FmC 𝓤 H (W .laws) C → (R₀ R₁ R₂ Q : RattleType) (ss : List (Slot 3)) (ks : Kepts ss) (c : Clauses 𝓤 (shr-shr-mut-ended R₀ R₁ R₂ Q ss ks)) → Triple 𝓤 (C f) (contractOf 𝓤 H A (shr-shr-mut-ended R₀ R₁ R₂ Q ss ks) c)
+      → {κ₀ : Lft} {q₀ : Share} (b₀ o₀ : ℕ) (γ₀ : GName) (ys₀ : List (R₀ .Denot)) (n₀ : ℕ) → length ys₀ ≡ n₀
+      → {κ₁ : Lft} {q₁ : Share} (b₁ o₁ : ℕ) (γ₁ : GName) (ys₁ : List (R₁ .Denot)) (n₁ : ℕ) → length ys₁ ≡ n₁
+      → {κ₂ : Lft} {q₂ : Share} (b₂ o₂ : ℕ) (γ₂ : GName) (ys₂ : List (R₂ .Denot)) (n₂ : ℕ) → length ys₂ ≡ n₂
+      → (a : (κs : Lfts 3) → Denots (typesAt ss κs)) (vss : (κs : Lfts 3) → Valss (typesAt ss κs)) → ((κs : Lfts 3) → ent 𝓤 (emp 𝓤) (sem 𝓤 H A (owns (typesAt ss κs) (a κs) (vss κs))))
+      → (g : (κs : Lfts 3) (δ₀ δ₁ δ₂ : GName) → c κs (ref b₀ o₀ δ₀ ys₀, (ref b₁ o₁ δ₁ ys₁, (ref b₂ o₂ δ₂ ys₂, a κs))) .ghost) → ((κs : Lfts 3) (δ₀ δ₁ δ₂ : GName) → ent 𝓤 (emp 𝓤) (c κs (ref b₀ o₀ δ₀ ys₀, (ref b₁ o₁ δ₁ ys₁, (ref b₂ o₂ δ₂ ys₂, a κs))) .requires (g κs δ₀ δ₁ δ₂)))
+      → (ψ : Q .Denot → List (R₂ .Denot) → Type 0) → ((κs : Lfts 3) (δ₀ δ₁ δ₂ : GName) (r : Q .Denot) (ws : Lasts (shr-shr-mut-ended R₀ R₁ R₂ Q ss ks) κs (ref b₀ o₀ δ₀ ys₀, (ref b₁ o₁ δ₁ ys₁, (ref b₂ o₂ δ₂ ys₂, a κs)))) → ent 𝓤 (c κs (ref b₀ o₀ δ₀ ys₀, (ref b₁ o₁ δ₁ ys₁, (ref b₂ o₂ δ₂ ys₂, a κs))) .ensures (g κs δ₀ δ₁ δ₂) r (atExit (shr-shr-mut-ended R₀ R₁ R₂ Q ss ks) κs (ref b₀ o₀ δ₀ ys₀, (ref b₁ o₁ δ₁ ys₁, (ref b₂ o₂ δ₂ ys₂, a κs))) ws)) (fact 𝓤 (ψ r (ws .1 .1 .0))))
+      → ((κs : Lfts 3) (δ₀ δ₁ δ₂ : GName) → Opds K W (raw (contractOf 𝓤 H A (shr-shr-mut-ended R₀ R₁ R₂ Q ss ks) c .pre ((κs, (q₀, (q₁, (fullShare, tt))), tt, (ref b₀ o₀ δ₀ ys₀, (ref b₁ o₁ δ₁ ys₁, (ref b₂ o₂ δ₂ ys₂, a κs))), (sliceVal (b₀, o₀) n₀ ∷ [], (sliceVal (b₁, o₁) n₁ ∷ [], (sliceVal (b₂, o₂) n₂ ∷ [], vss κs)))), g κs δ₀ δ₁ δ₂)) ∷ ‵ ftrue ∷ ‵ ftrue ∷ ‵ (ShrSlice (named 0) κ₀ R₀ .own (ref b₀ o₀ γ₀ ys₀) (sliceVal (b₀, o₀) n₀ ∷ [])) ∷ ‵ (ShrSlice (named 0) κ₁ R₁ .own (ref b₁ o₁ γ₁ ys₁) (sliceVal (b₁, o₁) n₁ ∷ [])) ∷ ‵ (LentAgain R₂ κ₂ (κs .1 .1 .0) q₂ γ₂ b₂ o₂ δ₂ ys₂) ∷ Γ) E xs (sliceVal (b₀, o₀) n₀ ∷ sliceVal (b₁, o₁) n₁ ∷ sliceVal (b₂, o₂) n₂ ∷ flat (typesAt ss κs) (vss κs)))
+      → ((u : Val) (r : Q .Denot) (zs₂ : List (R₂ .Denot)) → length zs₂ ≡ n₂ → ψ r zs₂ → Is Q r (u ∷ []) → Seq K W (‵ (flft κ₀ q₀) ∷ ‵ (ShrSlice (named 0) κ₀ R₀ .own (ref b₀ o₀ γ₀ ys₀) (sliceVal (b₀, o₀) n₀ ∷ [])) ∷ ‵ (flft κ₁ q₁) ∷ ‵ (ShrSlice (named 0) κ₁ R₁ .own (ref b₁ o₁ γ₁ ys₁) (sliceVal (b₁, o₁) n₁ ∷ [])) ∷ ‵ (flft κ₂ q₂) ∷ ‵ (MutSlice (named 0) κ₂ R₂ .own (ref b₂ o₂ γ₂ zs₂) (sliceVal (b₂, o₂) n₂ ∷ [])) ∷ Γ) (settles E d u p))
+      → Seq K W (‵ (flft κ₀ q₀) ∷ ‵ (ShrSlice (named 0) κ₀ R₀ .own (ref b₀ o₀ γ₀ ys₀) (sliceVal (b₀, o₀) n₀ ∷ [])) ∷ ‵ (flft κ₁ q₁) ∷ ‵ (ShrSlice (named 0) κ₁ R₁ .own (ref b₁ o₁ γ₁ ys₁) (sliceVal (b₁, o₁) n₁ ∷ [])) ∷ ‵ (flft κ₂ q₂) ∷ ‵ (MutSlice (named 0) κ₂ R₂ .own (ref b₂ o₂ γ₂ ys₂) (sliceVal (b₂, o₂) n₂ ∷ [])) ∷ Γ) (runs C Λ E (call f xs d) p)
+  calls-shr-shr-mut-last t fm R₀ R₁ R₂ Q ss ks c known {κ₀} {q₀} b₀ o₀ γ₀ ys₀ n₀ en₀ {κ₁} {q₁} b₁ o₁ γ₁ ys₁ n₁ en₁ {κ₂} {q₂} b₂ o₂ γ₂ ys₂ n₂ en₂ a vss own g req ψ ens os k =
+      lend-shr t R₀ (ref b₀ o₀ γ₀ ys₀) (sliceVal (b₀, o₀) n₀ ∷ []) (
+      move t (3 ∷ 4 ∷ []) $ lend-shr t R₁ (ref b₁ o₁ γ₁ ys₁) (sliceVal (b₁, o₁) n₁ ∷ []) (
+      move t (6 ∷ 7 ∷ []) $ lend-mut t tt R₂ b₂ o₂ γ₂ ys₂ n₂ en₂ (λ ν₂ δ₂ room₂.
+      move t (1 ∷ 4 ∷ 7 ∷ 0 ∷ 3 ∷ 6 ∷ []) $ move t (1 ∷ 0 ∷ []) $ fjoin t $ move t (1 ∷ 0 ∷ []) $ fjoin t $ move t (1 ∷ 0 ∷ []) $ fjoin t $ move t (1 ∷ 0 ∷ []) $ fjoin t $ move t (1 ∷ 0 ∷ []) $ fjoin t $ use1 W (raw (pre (κ₀, (κ₁, (ν₂ ∷ [], tt))) γ₀ γ₁ δ₂)) (goes (κ₀, (κ₁, (ν₂ ∷ [], tt))) γ₀ γ₁ δ₂) $ nothing t $ nothing t $ move t (2 ∷ 1 ∷ 0 ∷ 5 ∷ 4 ∷ 3 ∷ []) $
+      calls-at-last t fm (contractOf 𝓤 H A (shr-shr-mut-ended R₀ R₁ R₂ Q ss ks) c) known (y (κ₀, (κ₁, (ν₂ ∷ [], tt))) γ₀ γ₁ δ₂) (os (κ₀, (κ₁, (ν₂ ∷ [], tt))) γ₀ γ₁ δ₂) (λ u.
+      use1 W (later (some (λ (r : Q .Denot). ((‵ (flft κ₀ q₀) ⊛ (‵ (flft κ₁ q₁) ⊛ (‵ (flft (ν₂ ∷ []) fullShare) ⊛ ‵ ftrue))) ⊛ ‵ (Q .own r (u ∷ []))) ⊛ raw (ensured 𝓤 H A (shr-shr-mut-ended R₀ R₁ R₂ Q ss ks) c (κ₀, (κ₁, (ν₂ ∷ [], tt))) (args (κ₀, (κ₁, (ν₂ ∷ [], tt))) γ₀ γ₁ δ₂) (g (κ₀, (κ₁, (ν₂ ∷ [], tt))) γ₀ γ₁ δ₂) r)))) (id⊢ 𝓤 _) $ await t tt $ pick t (λ r. split t $ move t (1 ∷ []) $
+      use1 W (some (λ (ws : Lasts (shr-shr-mut-ended R₀ R₁ R₂ Q ss ks) (κ₀, (κ₁, (ν₂ ∷ [], tt))) (args (κ₀, (κ₁, (ν₂ ∷ [], tt))) γ₀ γ₁ δ₂)). ‵ (lasts (shr-shr-mut-ended R₀ R₁ R₂ Q ss ks) (κ₀, (κ₁, (ν₂ ∷ [], tt))) (args (κ₀, (κ₁, (ν₂ ∷ [], tt))) γ₀ γ₁ δ₂) ws) ⊛ raw (c (κ₀, (κ₁, (ν₂ ∷ [], tt))) (args (κ₀, (κ₁, (ν₂ ∷ [], tt))) γ₀ γ₁ δ₂) .ensures (g (κ₀, (κ₁, (ν₂ ∷ [], tt))) γ₀ γ₁ δ₂) r (atExit (shr-shr-mut-ended R₀ R₁ R₂ Q ss ks) (κ₀, (κ₁, (ν₂ ∷ [], tt))) (args (κ₀, (κ₁, (ν₂ ∷ [], tt))) γ₀ γ₁ δ₂) ws)))) (id⊢ 𝓤 _) $ pick t (λ ws. split t $ move t (1 ∷ []) $
+      use1 W (raw (fact 𝓤 (ψ r (ws .1 .1 .0)))) (ens (κ₀, (κ₁, (ν₂ ∷ [], tt))) γ₀ γ₁ δ₂ r ws) $ heard t (ψ r (ws .1 .1 .0)) (λ e.
+      fsplit t $ drop t $ fsplit t $ drop t $ fsplit t $ fsplit t $ move t (1 ∷ []) $ feqL t (λ l₂. move t (1 ∷ []) $ drop t $ move t (1 ∷ []) $ split t $ move t (1 ∷ []) $ peeks t Q (Is Q) (shows 𝓤 H A Q) r (u ∷ []) (λ is. drop t $ split t $ move t (1 ∷ []) $ split t $ move t (1 ∷ []) $ split t $ move t (1 ∷ []) $ drop t $
+      move t (0 ∷ 8 ∷ 3 ∷ []) $ back-mut t tt R₂ b₂ o₂ γ₂ ys₂ n₂ en₂ ν₂ δ₂ room₂ (ws .1 .1 .0) l₂ (move t (4 ∷ []) $ drop t $ move t (4 ∷ []) $ drop t $ move t (3 ∷ 4 ∷ 2 ∷ 5 ∷ 0 ∷ 1 ∷ []) $ k u r (ws .1 .1 .0) (l₂ ∙ en₂) e is))))))))))
+    where
+      args : (κs : Lfts 3) (δ₀ δ₁ δ₂ : GName) → Args ((shr-shr-mut-ended R₀ R₁ R₂ Q ss ks) .signature) κs
+      args κs δ₀ δ₁ δ₂ = (ref b₀ o₀ δ₀ ys₀, (ref b₁ o₁ δ₁ ys₁, (ref b₂ o₂ δ₂ ys₂, a κs)))
+
+      y : (κs : Lfts 3) (δ₀ δ₁ δ₂ : GName) → contractOf 𝓤 H A (shr-shr-mut-ended R₀ R₁ R₂ Q ss ks) c .Ghost
+      y κs δ₀ δ₁ δ₂ = ((κs, (q₀, (q₁, (fullShare, tt))), tt, (ref b₀ o₀ δ₀ ys₀, (ref b₁ o₁ δ₁ ys₁, (ref b₂ o₂ δ₂ ys₂, a κs))), (sliceVal (b₀, o₀) n₀ ∷ [], (sliceVal (b₁, o₁) n₁ ∷ [], (sliceVal (b₂, o₂) n₂ ∷ [], vss κs)))), g κs δ₀ δ₁ δ₂)
+
+      pre : (κs : Lfts 3) (δ₀ δ₁ δ₂ : GName) → SProp 𝓤
+      pre κs δ₀ δ₁ δ₂ = contractOf 𝓤 H A (shr-shr-mut-ended R₀ R₁ R₂ Q ss ks) c .pre (y κs δ₀ δ₁ δ₂)
+
+      goes : (κs : Lfts 3) (δ₀ δ₁ δ₂ : GName) → ent 𝓤 (sem 𝓤 H A (fsep (flft (κs .0) q₀) (fsep (flft (κs .1 .0) q₁) (fsep (flft (κs .1 .1 .0) fullShare) (fsep (ShrSlice (named 0) (κs .0) R₀ .own (ref b₀ o₀ δ₀ ys₀) (sliceVal (b₀, o₀) n₀ ∷ [])) (fsep (ShrSlice (named 0) (κs .1 .0) R₁ .own (ref b₁ o₁ δ₁ ys₁) (sliceVal (b₁, o₁) n₁ ∷ [])) (MutSlice (named 0) (κs .1 .1 .0) R₂ .own (ref b₂ o₂ δ₂ ys₂) (sliceVal (b₂, o₂) n₂ ∷ [])))))))) (pre κs δ₀ δ₁ δ₂)
+      goes κs δ₀ δ₁ δ₂ =
+          qed W (‵ (fsep (flft (κs .0) q₀) (fsep (flft (κs .1 .0) q₁) (fsep (flft (κs .1 .1 .0) fullShare) (fsep (ShrSlice (named 0) (κs .0) R₀ .own (ref b₀ o₀ δ₀ ys₀) (sliceVal (b₀, o₀) n₀ ∷ [])) (fsep (ShrSlice (named 0) (κs .1 .0) R₁ .own (ref b₁ o₁ δ₁ ys₁) (sliceVal (b₁, o₁) n₁ ∷ [])) (MutSlice (named 0) (κs .1 .1 .0) R₂ .own (ref b₂ o₂ δ₂ ys₂) (sliceVal (b₂, o₂) n₂ ∷ []))))))) ∷ []) ∵ fsplit ! $ move ! (1 ∷ []) $ fsplit ! $ move ! (1 ∷ []) $ fsplit ! $ move ! (1 ∷ []) $ fsplit ! $ move ! (1 ∷ []) $ fsplit ! $
+          use0 W (raw (c κs (ref b₀ o₀ δ₀ ys₀, (ref b₁ o₁ δ₁ ys₁, (ref b₂ o₂ δ₂ ys₂, a κs))) .requires (g κs δ₀ δ₁ δ₂))) (req κs δ₀ δ₁ δ₂) $ use0 W (‵ (owns (typesAt ss κs) (a κs) (vss κs))) (own κs) $ move ! (3 ∷ 0 ∷ []) $ fjoin ! $ move ! (2 ∷ 0 ∷ []) $ fjoin ! $ move ! (2 ∷ 0 ∷ []) $ fjoin ! $ nothing ! $ move ! (3 ∷ 0 ∷ []) $ join ! $ move ! (3 ∷ 0 ∷ []) $ join ! $ move ! (3 ∷ 0 ∷ []) $ join ! $ join ! $ frame ! $ done !

@@ -3,7 +3,7 @@ pub mod Bytes
 pub mod Calls
 pub mod DumpFences
 pub mod DumpValues
-pub mod Dumping
+pub mod DumpLaws
 pub mod Entries
 pub mod Every
 pub mod FenceRecords

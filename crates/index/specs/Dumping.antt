@@ -1,8 +1,11 @@
 -- Dump fence by fence and value by value: each row has a byte, 255 while no value has it.
 use mathlib.Core.Bool.{Bool, true, _&&_}
-use mathlib.Core.List.{List}
+use mathlib.Core.List.{List, [], _∷_}
 use Prim.Native.Nat.{ℕ, zero, suc, min, _+_, _-_, _*_, _/_}
-use lib.ListN.{getD}
+use lib.Dec.{ltb}
+use lib.ListN.{length, getD, take}
+use Rattle.answers.specs.Outcome.{_when_, Outcome, outcome}
+use Rattle.answers.specs.declared.Refusal.the-variants.{OutSmall}
 use Rattle.words.specs.Rows.{groupsFor}
 use Rattle.blocks.specs.Shape.{fenceCount}
 use Rattle.blocks.specs.Dump.{spanHolds, spanMarked}
@@ -60,3 +63,7 @@ module _ (header : Header) (memory : Memory) where
   valuesHold rows zero = true
   valuesHold rows (suc value) =
       valuesHold rows value && fencesHold header memory value (markedValues rows value) (fencesFor (header .issued) (header .spacing))
+
+-- the first n bytes are given, if the output has room for them
+unfoldable pub rowsGiven : ℕ → List ℕ → List ℕ → Outcome
+rowsGiven issued rows out = outcome (OutSmall when ltb (length out) issued ∷ []) (take issued rows) out

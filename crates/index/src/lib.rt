@@ -6,7 +6,7 @@
 pub mod alter;
 pub mod answering;
 pub mod changing;
-pub mod dump;
+pub mod dumping;
 pub mod entry;
 pub mod fences;
 pub mod header;

@@ -5,9 +5,9 @@ use native.Mathlib.Omega.{arith}
 use borrow.Author.Needs.{needs}
 use Rattle.words.specs.Rows.{groupsFor}
 use Rattle.index.specs.Dumping.{fenceHolds, fenceMarked}
-use Rattle.index.proofs.dump.Visits.{visit-group, block-place}
-use Rattle.index.proofs.dump.mark_fence.Statement.{statement}
-use Rattle.index.proofs.dump.mark_fence.Tie as tie
+use Rattle.index.proofs.dumping.Visits.{few-visits, visit-group, block-place}
+use Rattle.index.proofs.dumping.mark_fence.Statement.{statement}
+use Rattle.index.proofs.dumping.mark_fence.Tie as tie
 
 -- where fence j begins, and the bounds of the numbers
 first-group : (c : tie.Start) → c .args .j * c .args .plan .shape .spacing < groupsFor (c .args .issued)
@@ -15,6 +15,12 @@ first-group c = visit-group (c .args .issued) (c .args .plan .shape .spacing) (c
 
 few : (c : tie.Start) → groupsFor (c .args .issued) ≤ 4096
 few c = omega (arith, c .pre .2, c .pre .0 .limits .fewRows)
+
+few-j : (c : tie.Start) → c .args .j ≤ 4096
+few-j c = let limits = c .pre .0 .limits in omega (arith, few-visits (c .args .issued) (c .args .plan .shape .spacing) (limits .someSpacing) (omega (arith, c .pre .2, limits .fewRows)), c .pre .4)
+
+cast-from : tie.Need-cast-from
+cast-from c = omega (arith, few-j (c .before .before .before))
 
 mul-from : tie.Need-mul-from
 mul-from c = let start = c .before .before .before .before in omega (arith, first-group start, few start)
@@ -76,6 +82,7 @@ pub mark-fence-spec : {M : Type 1} → statement M
 mark-fence-spec =
     tie.close
     (tie.spec
+    cast-from
     mul-from
     add-smaller
     cast-smaller
