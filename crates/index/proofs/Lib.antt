@@ -13,6 +13,7 @@ pub mod Holders
 pub mod Lend
 pub mod Local
 pub mod MemoryLeft
+pub mod OneOutcome
 pub mod Planning
 pub mod Refusing
 pub mod RowLaws
