@@ -10,6 +10,7 @@ pub mod Reaching
 pub mod Readings
 pub mod Rooms
 pub mod Sizes
+pub mod SoundLists
 pub mod Turning
 pub mod WholeLists
 pub mod ZeroList

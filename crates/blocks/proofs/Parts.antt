@@ -201,3 +201,26 @@ module _ (shape : Shape) (words : List ℕ) (at : ℕ) where
         take-part words (at + (2 + shape .groups)) (updateRoom shape) (getD words (at + 1) 0) h,
       )
       (part-slice words (at + (2 + shape .groups)) (getD words (at + 1) 0) from to (omega arith) (omega arith))
+
+  -- the words that V and U leave unused in their rooms, as slices
+  pub value-unused : (from to : ℕ) → from ≡ at + 2 + getD words at 0 → to ≡ at + 2 + shape .groups
+      → take (to - from) (drop from words) ≡ drop (valueLength (part words at (blockSize shape))) (valueWords shape (part words at (blockSize shape)))
+  unfolding valueWords
+  value-unused from to e f =
+      rw (
+        value-length,
+        part-part words at (blockSize shape) 2 (shape .groups) (omega arith),
+        drop-part words (at + 2) (shape .groups) (getD words at 0),
+      )
+      (part-slice words (at + 2 + getD words at 0) (shape .groups - getD words at 0) from to e (omega arith))
+
+  pub update-unused : (from to : ℕ) → from ≡ at + 2 + shape .groups + getD words (at + 1) 0 → to ≡ at + 2 + shape .groups + updateRoom shape
+      → take (to - from) (drop from words) ≡ drop (updateLength (part words at (blockSize shape))) (updateWords shape (part words at (blockSize shape)))
+  unfolding updateWords
+  update-unused from to e f =
+      rw (
+        update-length,
+        part-part words at (blockSize shape) (2 + shape .groups) (updateRoom shape) (omega arith),
+        drop-part words (at + (2 + shape .groups)) (updateRoom shape) (getD words (at + 1) 0),
+      )
+      (part-slice words (at + (2 + shape .groups) + getD words (at + 1) 0) (updateRoom shape - getD words (at + 1) 0) from to (omega arith) (omega arith))

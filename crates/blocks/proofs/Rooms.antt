@@ -22,7 +22,7 @@ module _ (room : ℕ) (list : List ℕ) where
   unfolding padded
   drop-padded = drop-at list (replicate (room - length list) 0) (length list) refl
 
-take-zeros : (few many : ℕ) → few ≤ many → take {A = ℕ} few (replicate many 0) ≡ replicate few 0
+pub take-zeros : (few many : ℕ) → few ≤ many → take {A = ℕ} few (replicate many 0) ≡ replicate few 0
 take-zeros zero many h = refl
 take-zeros (suc few) zero h = absurd (omega arith)
 take-zeros (suc few) (suc many) h = ap (_∷_ 0) (take-zeros few many (omega arith))

@@ -93,7 +93,7 @@ module _ (shape : Shape) (limits : Limits shape) (block : List ℕ) (whole : who
   pub current-fits : length (encode (current shape block)) ≤ shape .groups
   current-fits = omega (arith, encode-length (current shape block), length-current)
 
-  current-lt : Groups (current shape block)
+  pub current-lt : Groups (current shape block)
   unfolding current
   current-lt = combined-lt exclusive exclusive-bits (decode (valueList shape block)) (decode (updateList shape block))
 

@@ -2,6 +2,7 @@ pub mod Shape
 pub mod Block
 pub mod Read
 pub mod Whole
+pub mod Audit
 pub mod Query
 pub mod Change
 pub mod Column

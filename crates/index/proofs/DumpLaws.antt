@@ -22,16 +22,10 @@ use Rattle.index.specs.declared.entry.Plan.{Plan}
 use Rattle.index.specs.declared.header.Header.{Header}
 use Rattle.index.specs.declared.header.Fence.{Fence}
 use Rattle.index.proofs.DumpValues.{rowByte, rowFree, Tells, row-tells, allFree, allMarked, values-marked, values-hold}
-use Rattle.index.proofs.Every.{every-holds, holds-every}
+use Rattle.index.proofs.Every.{every-holds, holds-every, same-test}
 use Rattle.index.proofs.Headers.{Within}
 
 -- ---- answers
-
--- two answers are the same if each is true where the other is
-same-answer : (a b : Bool) → (a ≡ true → b ≡ true) → (b ≡ true → a ≡ true) → a ≡ b
-same-answer true b there back = sym (there refl)
-same-answer false true there back = back refl
-same-answer false false there back = refl
 
 -- an answer that goes on with one test more at each number stays false once it is
 module _ (answer test : ℕ → Bool) (goes-on : (number : ℕ) → answer (suc number) ≡ answer number && test number) where
@@ -122,7 +116,7 @@ module _ (header : Header) (memory : Memory) where
     pub dump-holds : valuesHold header memory (replicate room 255) (header .values) ≡ every (header .issued) (λ row. not (isDamaged (rowOf header memory row)))
     dump-holds =
         values-hold header memory (w .someSpacing) (replicate room 255) (header .values)
-        ∙ same-answer (everyRow test 0 (replicate room 255)) (every (header .issued) (λ row. not (isDamaged (rowOf header memory row)))) there back
+        ∙ same-test (everyRow test 0 (replicate room 255)) (every (header .issued) (λ row. not (isDamaged (rowOf header memory row)))) there back
       where
         there : everyRow test 0 (replicate room 255) ≡ true → every (header .issued) (λ row. not (isDamaged (rowOf header memory row))) ≡ true
         there all =

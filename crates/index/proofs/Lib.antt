@@ -17,4 +17,5 @@ pub mod OneOutcome
 pub mod Planning
 pub mod Refusing
 pub mod RowLaws
+pub mod Taken
 pub mod ValuePapers

@@ -29,13 +29,12 @@ OneChange after =
     → (a ≡ b) × (words ≡ others) × (fences ≡ records)
 
 one-change : (after : After) → OneChange after
-one-change after a b words others fences records l m =
-    (
-      ap₂ (λ (header : Header) (answer : Answer). record { header = header; answer = answer })
+one-change after a b words others fences records l m = (
+  ap₂ (λ (header : Header) (answer : Answer). record { header = header; answer = answer })
       (l .gives ∙ sym (m .gives)) (one-to-one (a .answer) (b .answer) (l .answers ∙ sym (m .answers))),
-      l .leaves ∙ sym (m .leaves),
-      l .keeps ∙ sym (m .keeps),
-    )
+  l .leaves ∙ sym (m .leaves),
+  l .keeps ∙ sym (m .keeps),
+)
 
 -- ---- the calls
 

@@ -3,12 +3,11 @@ use mathlib.Core.Bool.{Bool, true, _&&_}
 use mathlib.Core.List.{List}
 use Prim.Native.Nat.{ℕ, zero, suc, _+_, _*_}
 use lib.Dec.{leb}
-use lib.ListN.{length, drop}
-use Rattle.words.specs.Rows.{rowLimit, rowAt, allZero, clearFrom}
-use Rattle.words.specs.Words.{decode}
+use lib.ListN.{length}
+use Rattle.words.specs.Rows.{rowLimit, rowAt}
 use Rattle.blocks.specs.Shape.{shapeFor, blockSize, fenceCount}
-use Rattle.blocks.specs.Block.{part, valueLength, updateLength, valueWords, updateWords, valueList, updateList, current}
-use Rattle.blocks.specs.Whole.{wholeLists}
+use Rattle.blocks.specs.Block.{part, valueList, current}
+use Rattle.blocks.specs.Audit.{soundLists}
 use Rattle.blocks.specs.declared.shape.Shape.{Shape}
 use Rattle.index.specs.Fences.{rightFences}
 use Rattle.index.specs.declared.header.Header.{Header}
@@ -54,19 +53,10 @@ rowsIn header words value = current (shapeOf header) (blockAt header words value
 unfoldable pub fencesAt : Header → List Fence → ℕ → List Fence
 fencesAt header fences value = part fences (value * fenceCount (shapeOf header)) (fenceCount (shapeOf header))
 
--- V and U are canonical for M groups with no bit at row n or above, U has at most T ones, and unused list words are zero
-unfoldable pub soundBlock : Header → List ℕ → Bool
-soundBlock header block =
-    wholeLists (shapeOf header) block
-    && clearFrom (header .issued) (decode (valueList (shapeOf header) block))
-    && clearFrom (header .issued) (decode (updateList (shapeOf header) block))
-    && allZero (drop (valueLength block) (valueWords (shapeOf header) block))
-    && allZero (drop (updateLength block) (updateWords (shapeOf header) block))
-
--- and every fence is right
+-- V and U are canonical for M groups with no bit at row n or above, U has at most T ones, unused list words are zero, and every fence is right
 unfoldable pub soundValue : Header → Memory → ℕ → Bool
 soundValue header memory value =
-    soundBlock header (blockAt header (memory .words) value)
+    soundLists (shapeOf header) (header .issued) (blockAt header (memory .words) value)
     && rightFences (shapeOf header) (valueList (shapeOf header) (blockAt header (memory .words) value)) 0 (fencesAt header (memory .fences) value)
 
 -- whether a test holds of every number below the given one

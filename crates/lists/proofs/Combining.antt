@@ -31,6 +31,13 @@ module _ (operation : Operation) where
   combined-none [] ys e = refl
   combined-none (x ∷ xs) ys e = absurd (omega arith)
 
+  pub combined-append : (xs ys more others : List ℕ) → length xs ≡ length ys
+      → combined operation (xs ++ more) (ys ++ others) ≡ combined operation xs ys ++ combined operation more others
+  combined-append [] [] more others e = refl
+  combined-append [] (y ∷ ys) more others e = absurd (omega arith)
+  combined-append (x ∷ xs) [] more others e = absurd (omega arith)
+  combined-append (x ∷ xs) (y ∷ ys) more others e = ap (_∷_ (onGroup operation x y)) (combined-append xs ys more others (omega arith))
+
   -- a span in front of each list: as many groups as both spans have are one group over and over
   pub combined-spans : (count m n x y : ℕ) (xs ys : List ℕ) → count ≤ m → count ≤ n
       → combined operation (replicate m x ++ xs) (replicate n y ++ ys)

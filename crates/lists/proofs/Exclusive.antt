@@ -1,4 +1,4 @@
--- The XOR of some groups with zeros, and with groups of which a row is turned over. Assumes nothing.
+-- The XOR of some groups the other way round, with zeros, and with groups of which a row is turned over. Assumes nothing.
 use mathlib.Core.Path.{_≡_, refl, _∙_, sym}
 use mathlib.Core.Bool.{Bool, true, false}
 use mathlib.Core.List.{List}
@@ -17,6 +17,22 @@ use Rattle.lists.proofs.Combining.{length-combined, combined-lt, rowAt-
 use Rattle.lists.proofs.Operations.{exclusive-bits, turns}
 use Rattle.lists.proofs.TurningOver.{length-turnedOver, turnedOver-lt, rowAt-turnedOver, rowAt-turnedOver-other}
 
+-- ---- the other way round
+
+answer-comm : (left right : ℕ) → answer exclusive left right ≡ answer exclusive right left
+answer-comm zero zero = refl
+answer-comm zero (suc right) = refl
+answer-comm (suc left) zero = refl
+answer-comm (suc left) (suc right) = refl
+
+pub xor-comm : (xs ys : List ℕ) → length xs ≡ length ys → combined exclusive xs ys ≡ combined exclusive ys xs
+xor-comm xs ys same =
+    same-groups (combined exclusive xs ys) (combined exclusive ys xs) (combined-lt exclusive exclusive-bits xs ys) (combined-lt exclusive exclusive-bits ys xs)
+    (length-combined exclusive xs ys same ∙ same ∙ sym (length-combined exclusive ys xs (sym same)))
+    (λ row. rowAt-combined-any exclusive exclusive-bits xs ys row same refl
+    ∙ answer-comm (rowAt xs row) (rowAt ys row)
+    ∙ sym (rowAt-combined-any exclusive exclusive-bits ys xs row (sym same) refl))
+
 -- ---- with zeros
 
 -- THEOREM: an XOR with zeros changes nothing
@@ -31,6 +47,9 @@ xor-zeros count groups small long =
 
     same : length groups ≡ length {A = ℕ} (replicate count 0)
     same = long ∙ sym (length-replicate count 0)
+
+pub zeros-xor : (count : ℕ) (groups : List ℕ) → Groups groups → length groups ≡ count → combined exclusive (replicate count 0) groups ≡ groups
+zeros-xor count groups small long = xor-comm (replicate count 0) groups (length-replicate count 0 ∙ sym long) ∙ xor-zeros count groups small long
 
 -- ---- with a row turned over
 

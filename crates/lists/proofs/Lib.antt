@@ -1,3 +1,4 @@
+pub mod Apart
 pub mod Combining
 pub mod Covering
 pub mod Exclusive

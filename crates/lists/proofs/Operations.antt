@@ -1,18 +1,18 @@
--- Laws of an operation on two groups: its bits, its bound, and what it makes of uniform groups; the machine's XOR is one. Assumes nothing.
+-- Laws of an operation on two groups: its bits, its bound, and what it makes of uniform groups; the machine's XOR, AND and OR are such. Assumes nothing.
 use mathlib.Core.Path.{_≡_, refl, _∙_, ap₂, sym}
 use mathlib.Core.Bool.{Bool, true, false}
-use Prim.Native.Nat.{ℕ, suc, zero, _+_, _-_, _*_, _/_, _%_, _^_, _<_, _≤_}
+use Prim.Native.Nat.{ℕ, suc, zero, min, max, _+_, _-_, _*_, _/_, _%_, _^_, _<_, _≤_}
 use native.Mathlib.Omega.{arith}
 use native.Mathlib.Nat.{pow-suc, div-one}
 use native.Mathlib.Numerals.{one-add}
 use lib.Arith.{lt-one, digits-lt, digits-div, digits-mod}
-use lib.Bits.{bitXor, differ, xor-step}
+use lib.Bits.{bitXor, bitAnd, bitOr, differ, xor-step, and-step, or-step}
 use lib.Dec.{leb, eqb}
 use lib.Pow.{shr-shr}
 use borrow.Author.Tests.{leb-true, leb-false, eqb-true, eqb-false}
 use Rattle.words.specs.Words.{allOnes}
 use Rattle.words.specs.Writer.{Alone}
-use Rattle.lists.specs.Combine.{Operation, exclusive, answer, onBits, onGroup}
+use Rattle.lists.specs.Combine.{Operation, exclusive, shared, either, answer, onBits, onGroup}
 
 -- what holds for the four pairs of bits holds for any two
 by-bits : (Holds : ℕ → ℕ → Type 0) → Holds 0 0 → Holds 0 1 → Holds 1 0 → Holds 1 1 → (a b : ℕ) → a < 2 → b < 2 → Holds a b
@@ -28,11 +28,20 @@ by-bits Holds neither right left both (suc (suc a)) b p q = absurd (omega arith)
 abbrev pub GivesBits : Operation → Type 0
 GivesBits operation = (a b : ℕ) → answer operation a b < 2
 
+gives-bits : (operation : Operation) → operation .neither < 2 → operation .right < 2 → operation .left < 2 → operation .both < 2 → GivesBits operation
+gives-bits operation n r l b zero zero = n
+gives-bits operation n r l b zero (suc y) = r
+gives-bits operation n r l b (suc x) zero = l
+gives-bits operation n r l b (suc x) (suc y) = b
+
 pub exclusive-bits : GivesBits exclusive
-exclusive-bits zero zero = omega arith
-exclusive-bits zero (suc b) = omega arith
-exclusive-bits (suc a) zero = omega arith
-exclusive-bits (suc a) (suc b) = omega arith
+exclusive-bits = gives-bits exclusive (omega arith) (omega arith) (omega arith) (omega arith)
+
+pub shared-bits : GivesBits shared
+shared-bits = gives-bits shared (omega arith) (omega arith) (omega arith) (omega arith)
+
+pub either-bits : GivesBits either
+either-bits = gives-bits either (omega arith) (omega arith) (omega arith) (omega arith)
 
 -- 1 turns a bit over, and 0 leaves it
 pub turns : (bit : ℕ) → bit < 2 → (answer exclusive bit 1 ≡ 1 - bit) × (answer exclusive bit 0 ≡ bit)
@@ -114,20 +123,31 @@ module _ (operation : Operation) (bits : GivesBits operation) where
           let (j, q, v) = long-uniform y n b (omega arith) in
           absurd (omega (arith, ap₂ (onGroup operation) u v ∙ onGroup-uniform i j p q, bits i j, none, all))
 
--- ---- the machine's XOR
+-- ---- the machine's XOR, AND and OR
 
-differs : (a b : ℕ) → a < 2 → b < 2 → differ a b ≡ answer exclusive a b
-differs = by-bits (λ a b. differ a b ≡ answer exclusive a b) refl refl refl refl
+-- what works bit by bit, with an operation's answers, is that operation
+module _ (operation : Operation) (machine bit : ℕ → ℕ → ℕ) (none : machine 0 0 ≡ 0)
+    (step : (x y : ℕ) → machine x y ≡ machine (x / 2) (y / 2) * 2 + bit (x % 2) (y % 2))
+    (answers : (a b : ℕ) → a < 2 → b < 2 → bit a b ≡ answer operation a b) where
+  machine-onBits : (k x y : ℕ) → x < 2 ^ k → y < 2 ^ k → machine x y ≡ onBits operation k x y
+  machine-onBits zero x y h k = ap₂ machine (lt-one h) (lt-one k) ∙ none
+  machine-onBits (suc k) x y h l =
+      step x y
+      ∙ ap₂ (λ (high low : ℕ). high * 2 + low)
+      (machine-onBits k (x / 2) (y / 2) (omega (arith, pow-suc 2 k)) (omega (arith, pow-suc 2 k)))
+      (answers (x % 2) (y % 2) (omega arith) (omega arith))
 
-xor-onBits : (k x y : ℕ) → x < 2 ^ k → y < 2 ^ k → bitXor x y ≡ onBits exclusive k x y
-xor-onBits zero x y h k = ap₂ bitXor (lt-one h) (lt-one k)
-xor-onBits (suc k) x y h l =
-    xor-step x y
-    ∙ ap₂ (λ (high low : ℕ). high * 2 + low)
-    (xor-onBits k (x / 2) (y / 2) (omega (arith, pow-suc 2 k)) (omega (arith, pow-suc 2 k)))
-    (differs (x % 2) (y % 2) (omega arith) (omega arith))
+  machine-onGroup : (x y : ℕ) → x < 2 ^ 31 → y < 2 ^ 31 → machine x y ≡ onGroup operation x y
+  unfolding onGroup
+  machine-onGroup x y h k = machine-onBits 31 x y h k
 
--- THEOREM: the machine's XOR of two groups is the exclusive operation on them
+-- THEOREM: the machine's XOR, AND and OR of two groups are the operations on them
 pub xor-onGroup : (x y : ℕ) → x < 2 ^ 31 → y < 2 ^ 31 → bitXor x y ≡ onGroup exclusive x y
-unfolding onGroup
-xor-onGroup x y h k = xor-onBits 31 x y h k
+xor-onGroup =
+    machine-onGroup exclusive bitXor differ refl xor-step (by-bits (λ a b. differ a b ≡ answer exclusive a b) refl refl refl refl)
+
+pub and-onGroup : (x y : ℕ) → x < 2 ^ 31 → y < 2 ^ 31 → bitAnd x y ≡ onGroup shared x y
+and-onGroup = machine-onGroup shared bitAnd min refl and-step (by-bits (λ a b. min a b ≡ answer shared a b) refl refl refl refl)
+
+pub or-onGroup : (x y : ℕ) → x < 2 ^ 31 → y < 2 ^ 31 → bitOr x y ≡ onGroup either x y
+or-onGroup = machine-onGroup either bitOr max refl or-step (by-bits (λ a b. max a b ≡ answer either a b) refl refl refl refl)

@@ -1,8 +1,10 @@
--- Document 02 [3] ahead: two lists of groups are combined bit by bit, by an operation that is a table of four answers. Today's operation is XOR.
+-- Document 02 [3] ahead: two lists of groups are combined bit by bit, by an operation that is a table of four answers.
 use mathlib.Core.Path.{_≡_}
+use mathlib.Core.Bool.{Bool}
 use mathlib.Core.List.{List, [], _∷_, _++_}
 use Prim.Native.Nat.{ℕ, zero, suc, _+_, _*_, _-_, _/_, _%_, _<_}
 use lib.ListN.{length, getD, drop, replicate}
+use Rattle.words.specs.Rows.{allZero}
 use Rattle.words.specs.Words.{runOf, span, decode}
 use Rattle.words.specs.Writer.{Alone}
 use Rattle.lists.specs.declared.combine.Span.{Span}
@@ -17,6 +19,14 @@ pub record Operation : Type 0 where
 -- 1 where the bits differ
 abbrev pub exclusive : Operation
 exclusive = record { neither = 0; right = 1; left = 1; both = 0 }
+
+-- 1 where both bits are 1
+abbrev pub shared : Operation
+shared = record { neither = 0; right = 0; left = 0; both = 1 }
+
+-- 1 where a bit is 1
+abbrev pub either : Operation
+either = record { neither = 0; right = 1; left = 1; both = 1 }
 
 -- the answer for two bits
 abbrev pub answer : Operation → ℕ → ℕ → ℕ
@@ -39,6 +49,10 @@ abbrev pub combined : Operation → List ℕ → List ℕ → List ℕ
 combined operation [] ys = []
 combined operation (x ∷ xs) [] = []
 combined operation (x ∷ xs) (y ∷ ys) = onGroup operation x y ∷ combined operation xs ys
+
+-- no row is 1 in both of two lists of equally many groups
+unfoldable pub apart : List ℕ → List ℕ → Bool
+apart xs ys = allZero (combined shared xs ys)
 
 -- no fill of a list counts 0
 abbrev pub Filled : List ℕ → Type 0

@@ -7,9 +7,9 @@ use native.Mathlib.Omega.{arith}
 use native.Mathlib.Nat.{zero-div}
 use lib.Dec.{ltb, leb}
 use lib.ListN.{length, getD, take, drop, replicate, length-append, length-drop, drop-of-length-le, replicate-append-replicate, List·getD-append, List·getD-eq-default}
-use lib.Seq.{drop-drop, getD-append-add}
+use lib.Seq.{drop-drop, getD-drop, getD-append-add}
 use borrow.Author.Tests.{ltb-true, ltb-false, leb-true, leb-false}
-use Rattle.words.specs.Rows.{areBits, groupsFor, groupOf, cut, groupsOf, bitsOf, rowsOf, rowAt}
+use Rattle.words.specs.Rows.{areBits, groupsFor, groupOf, cut, groupsOf, bitsOf, Groups, rowsOf, rowAt}
 use Rattle.words.specs.Words.{allOnes, uniform}
 use Rattle.words.proofs.Bits.{areBits-append, areBits-drop}
 use Rattle.words.proofs.Group.{getD-bitsOf, areBits-bitsOf, groupOf-lt, groupOf-take}
@@ -137,3 +137,22 @@ rowsOf-uniform bit zero h = refl
 rowsOf-uniform bit (suc count) h =
     let further : 31 + 31 * count ≡ 31 * suc count = omega arith in
     ap₂ _++_ (bitsOf-uniform bit h) (rowsOf-uniform bit count h) ∙ replicate-append-replicate 31 (31 * count) bit ∙ rw further refl
+
+-- ---- groups of 31 bits: in a part, one list behind another, and zeros
+
+pub groups-take : (count : ℕ) (groups : List ℕ) → Groups groups → Groups (take count groups)
+groups-take zero groups small i = omega arith
+groups-take (suc count) [] small i = small i
+groups-take (suc count) (group ∷ groups) small zero = small 0
+groups-take (suc count) (group ∷ groups) small (suc i) = groups-take count groups (λ k. small (suc k)) i
+
+pub groups-drop : (count : ℕ) (groups : List ℕ) → Groups groups → Groups (drop count groups)
+groups-drop count groups small i = rw getD-drop (small (count + i))
+
+pub groups-append : (front back : List ℕ) → Groups front → Groups back → Groups (front ++ back)
+groups-append [] back f b i = b i
+groups-append (group ∷ front) back f b zero = f 0
+groups-append (group ∷ front) back f b (suc i) = groups-append front back (λ k. f (suc k)) b i
+
+pub groups-zeros : (count : ℕ) → Groups (replicate count 0)
+groups-zeros count i = rw (getD-zeros count i) (omega arith)

@@ -15,3 +15,4 @@ pub mod Size
 pub mod Table
 pub mod Tail
 pub mod Writing
+pub mod Zeros

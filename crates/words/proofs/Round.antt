@@ -12,14 +12,11 @@ use Rattle.words.specs.Words.{addFill, addGroup, runsOf, encode, noFill,
 use Rattle.words.proofs.Runs.{addFills, runs-uniform, fills-apart, by-fill, by-group, groups-runs}
 use Rattle.words.proofs.word.Reading.{reads-literal, reads-fill}
 use Rattle.words.proofs.Forms.{length-groups, keeps-first, keeps-literal, keeps-fill, form-apart, apart-form}
+pub use Rattle.words.specs.Rows.{Groups}
 
 -- each of a list is a word of 32 bits, as in a slice
 abbrev pub Words : List ℕ → Type 0
 Words list = (i : ℕ) → getD list i 0 < 0x100000000
-
--- each of a list is a group of 31 bits
-abbrev pub Groups : List ℕ → Type 0
-Groups groups = (i : ℕ) → getD groups i 0 < 0x80000000
 
 -- ---- a word and its run
 

@@ -1,17 +1,18 @@
 -- The rows past the last one: that they are clear, by their numbers, and as the last group shows it. Assumes nothing.
-use mathlib.Core.Path.{_≡_, refl, _∙_, ap, sym}
-use mathlib.Core.Bool.{true, and-eq-true-iff}
+use mathlib.Core.Path.{_≡_, refl, _∙_, ap, ap₂, sym}
+use mathlib.Core.Bool.{true, _&&_, and-eq-true-iff}
 use mathlib.Core.List.{List, [], _∷_, _++_, append-nil}
 use Prim.Native.Nat.{ℕ, zero, suc, _+_, _*_, _-_, _%_, _^_, _<_, _≤_}
 use native.Mathlib.Omega.{arith}
-use native.Mathlib.Nat.{zero-mod}
+use native.Mathlib.Nat.{zero-mod, mod-eq-of-lt}
 use lib.Dec.{eqb}
 use lib.ListN.{length, getD, drop, replicate}
 use lib.Seq.{drop-nil, drop-append-add, getD-drop}
 use borrow.Author.Tests.{eqb-true, eq-eqb}
-use Rattle.words.specs.Rows.{groupsFor, bitsOf, rowsOf, rowAt, allZero, clearFrom}
+use Rattle.words.specs.Rows.{bitsOf, Groups, rowsOf, rowAt, allZero, clearFrom}
 use Rattle.words.proofs.Group.{drop-bitsOf, allZero-bitsOf}
 use Rattle.words.proofs.Groups.{getD-rowsOf}
+use Rattle.words.proofs.Zeros.{allZero-append}
 
 pub allZero-getD : (rows : List ℕ) → allZero rows ≡ true → (i : ℕ) → getD rows i 0 ≡ 0
 allZero-getD [] e i = refl
@@ -36,6 +37,16 @@ rowAt-clearFrom count groups h =
     getD-allZero (drop count (rowsOf groups))
     (λ i. getD-drop count (rowsOf groups) i 0 ∙ getD-rowsOf groups (count + i) ∙ h (count + i) (omega arith))
 
+-- no row at all is 1 exactly where each group is 0
+pub clear-all : (groups : List ℕ) → Groups groups → clearFrom 0 groups ≡ allZero groups
+unfolding clearFrom
+clear-all [] small = refl
+clear-all (group ∷ groups) small =
+    allZero-append (bitsOf 31 group) (rowsOf groups)
+    ∙ ap₂ _&&_
+    (allZero-bitsOf 31 group ∙ ap (λ (g : ℕ). eqb g 0) (mod-eq-of-lt (small 0)))
+    (clear-all groups (λ i. small (suc i)))
+
 -- the last of some groups; 0 where there is none
 abbrev pub lastOf : List ℕ → ℕ
 lastOf [] = 0
@@ -50,8 +61,8 @@ last-repeated [] (suc (suc count)) group h = last-repeated [] (suc count) group 
 last-repeated (first ∷ []) (suc count) group h = last-repeated [] (suc count) group h
 last-repeated (first ∷ next ∷ groups) (suc count) group h = last-repeated (next ∷ groups) (suc count) group h
 
--- THEOREM: of groups for some count of rows, no row past the last one is set exactly where the last group is zero in the bits that no row uses
-pub clear-tail : (count : ℕ) (groups : List ℕ) → length groups ≡ groupsFor count
+-- THEOREM: no row from one of the last group on, or past it, is set exactly where the last group is zero in the bits of these rows
+pub clear-tail : (count : ℕ) (groups : List ℕ) → 31 * length groups ≤ count + 31
     → clearFrom count groups ≡ eqb (lastOf groups % 2 ^ (31 * length groups - count)) 0
 unfolding clearFrom
 clear-tail count [] e = rw (drop-nil, zero-mod) refl

@@ -3,7 +3,7 @@ ghost use mathlib.Core.Path.{_≡_};
 ghost use mathlib.Core.Bool.{true};
 ghost use Prim.Native.Nat.{ℕ, min, _-_, _/_, _%_, _^_, _<_, _≤_};
 ghost use lib.ListN.{length, take};
-ghost use Rattle.words.specs.Rows.{rowLimit, groupsFor, areBits, groupOf, bitsOf};
+ghost use Rattle.words.specs.Rows.{rowLimit, groupsFor, areBits, groupOf, bitsOf, allZero};
 
 // The most rows a list can have.
 pub const ROW_LIMIT: usize = 126976;
@@ -73,6 +73,19 @@ pub fn all_bits(rows: &[u8]) -> bool
         i += 1;
     }
     largest < 2
+}
+
+// Whether each word is 0. It looks at all of them, as `all_bits` does.
+pub fn all_zero(words: &[u32]) -> bool
+    ensures { λ r. ⌜ r ≡ allZero (now (words .entry)) ⌝ }
+{
+    let mut gathered: u32 = 0;
+    let mut i: usize = 0;
+    while i < words.len() {
+        gathered |= words[i];
+        i += 1;
+    }
+    gathered == 0
 }
 
 fn wide(byte: u8) -> u32

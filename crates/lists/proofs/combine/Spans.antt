@@ -19,6 +19,7 @@ use Rattle.lists.specs.Combine.{Operation, onGroup, combined, Filled, Co
 use Rattle.lists.specs.declared.combine.Span.{Span}
 use Rattle.lists.proofs.Operations.{GivesBits, alone-onGroup}
 use Rattle.lists.proofs.Combining.{combined-none, combined-spans}
+use Rattle.lists.proofs.Covering.{word-small}
 
 length-remaining : (list : List ℕ) (at-hand : Span) → length (remaining list at-hand) ≡ at-hand .left + length (decode (drop (at-hand .next) list))
 length-remaining list at-hand = length-append (replicate (at-hand .left) (at-hand .group)) (decode (drop (at-hand .next) list)) ∙ rw length-replicate refl
@@ -28,10 +29,6 @@ length-remaining list at-hand = length-append (replicate (at-hand .left) (at-han
 run-alone : (run : Run) → Narrow run → Alone (groupIn run) (span run)
 run-alone (literal group) narrow none all = omega arith
 run-alone (fill bit count) narrow none all = absurd (omega arith)
-
-run-small : (run : Run) → Narrow run → groupIn run < 0x80000000
-run-small (literal group) narrow = narrow
-run-small (fill bit count) narrow = omega arith
 
 -- a span that is used up where groups are left has a word to open
 module _ (list : List ℕ) (used : Span) (none : used .left ≡ 0) (some : 0 < length (remaining list used)) where
@@ -50,7 +47,7 @@ module _ (list : List ℕ) (used : Span) (none : used .left ≡ 0) (some : 0 < l
         same = rw none (decode-from list (used .next) opens-at);
         some = filled (used .next) opens-at;
         alone = run-alone (runAt list (used .next)) (read-narrow _);
-        small = run-small (runAt list (used .next)) (read-narrow _);
+        small = word-small list (used .next);
       }
 
 -- ---- the loop

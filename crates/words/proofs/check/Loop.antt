@@ -115,5 +115,5 @@ module _ {list : List ℕ} {rows i : ℕ} {checking : Checking} (b : Behind list
     ends e groups g clear t =
         let long : length (decode list) ≡ groupsFor rows = omega (arith, all-groups) in
         let unused : groups * 31 - rows ≡ 31 * length (decode list) - rows = omega arith in
-        rw (t, unused, b .ones, b .last, take-all i list h, ← clear-tail rows (decode list) long)
+        rw (t, unused, b .ones, b .last, take-all i list h, ← clear-tail rows (decode list) (omega arith))
         (as-clear list rows (b .form ∙ form-end list i h (checking .before)) long)

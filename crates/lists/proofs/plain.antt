@@ -1,0 +1,3 @@
+-- What the proofs over plain groups use: the loops, and a list's groups one word after the other.
+mod Loops
+mod Turning
