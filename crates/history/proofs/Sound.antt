@@ -16,7 +16,7 @@ use Rattle.words.specs.Rows.{rowAt}
 use Rattle.blocks.specs.Shape.{Limits, blockSize, fenceCount}
 use Rattle.blocks.specs.Whole.{wholeLists}
 use Rattle.blocks.proofs.Sizes.{place-fits}
-use Rattle.index.specs.Memory.{Memory, withinLimits, shapeOf, lent, blockAt, rowsIn, soundValue, every, holdersOf, sound}
+use Rattle.index.specs.Memory.{Memory, withinLimits, shapeOf, lent, blockAt, rowsIn, soundValue, every, holdersOf, isSound}
 use Rattle.index.specs.Soundness.{SoundLists, FencesRight, Sound}
 use Rattle.index.specs.Calls.{badHeader, small, auditOutcome}
 use Rattle.index.specs.declared.header.Header.{Header}
@@ -67,8 +67,8 @@ module _ (header : Header) (memory : Memory) where
         }
 
   -- THEOREM: the test of soundness says document 01's sentence
-  pub sound-says : sound header memory ≡ true → Sound header memory
-  unfolding sound
+  pub sound-says : isSound header memory ≡ true → Sound header memory
+  unfolding isSound
   sound-says e =
       let lends = lent header (length (memory .words)) (length (memory .fences)) in
       let three = and-eq-true-iff _ (every (header .issued) (λ row. leb (holders row) 1)) .0 e in
@@ -103,8 +103,8 @@ module _ (header : Header) (memory : Memory) where
     sound-few row = apart-few header (memory .words) row (header .values) (s .apart row)
 
     -- THEOREM: and the sentence says the test
-    pub says-sound : sound header memory ≡ true
-    unfolding sound
+    pub says-sound : isSound header memory ≡ true
+    unfolding isSound
     says-sound =
         rw (
           s .within,
@@ -120,7 +120,7 @@ module _ (header : Header) (memory : Memory) where
   unfolding auditOutcome
   audit-exactly = (
     λ ok.
-        let checks = badHeader header memory ∷ small header memory ∷ Damaged when not (sound header memory) ∷ [] in
-        sound-says (not-false (sound header memory) (accepted checks [] [] ok .1 .1 .0)),
+        let checks = badHeader header memory ∷ small header memory ∷ Damaged when not (isSound header memory) ∷ [] in
+        sound-says (not-false (isSound header memory) (accepted checks [] [] ok .1 .1 .0)),
     λ s. rw (s .within, sound-lent s, says-sound s) refl,
   )

@@ -1,13 +1,13 @@
 -- A flip on a sound index: the value's lists and fences are sound, its rows have the row turned over, and every other value is as it was. The index is
 -- sound again where no other value has the row. Assumes nothing.
 use mathlib.Core.Path.{_≡_, refl, _∙_, ap, sym}
-use mathlib.Core.Bool.{false}
+use mathlib.Core.Bool.{false, cond}
 use mathlib.Core.List.{List}
 use Prim.Native.Nat.{ℕ, _+_, _-_, _<_, _≤_}
 use native.Mathlib.Omega.{arith}
 use lib.Dec.{eqb}
 use lib.ListN.{length}
-use borrow.Author.Tests.{eqb-true, eqb-false}
+use borrow.Author.Tests.{eqb-true, eqb-false, eq-eqb, ne-eqb}
 use Rattle.words.specs.Rows.{rowAt}
 use Rattle.lists.specs.OneRow.{turnedOver}
 use Rattle.blocks.specs.Shape.{blockSize}
@@ -105,6 +105,14 @@ module _ (header : Header) (memory : Memory) (s : Sound header memory) (value : 
         (rowAt-flipped-other (shapeOf header) (sound-limits header memory s) row inside block long-block (sound-whole header memory s value h) other differ))
         (λ each apart. rw (flip-replaces .only .blocks each apart) refl)
 
+    -- THEOREM: a row that no value has is then in this one alone
+    pub flip-lone : NoHolder header (memory .words) row (header .values)
+        → (each : ℕ) → each < header .values → rowAt (rowsIn header (flippedIn header memory value row .words) each) row ≡ cond (eqb value each) 1 0
+    flip-lone none =
+        of-each value (λ each. each < header .values → rowAt (rowsIn header (after .words) each) row ≡ cond (eqb value each) 1 0)
+        (λ l. rw (eq-eqb value value refl) (omega (arith, flip-bit, none value h)))
+        (λ each differ l. rw (ne-eqb value each differ, flip-others each differ) (none each l))
+
     -- ---- where no other value has the row
 
     module _ (alone : (other : ℕ) → other < header .values → (value ≡ other → ⊥) → rowAt (rowsIn header (memory .words) other) row ≡ 0) where
@@ -160,10 +168,7 @@ module _ (header : Header) (memory : Memory) (s : Sound header memory) (value : 
           (λ l. omega (arith, flip-bit row within-rows))
           (λ other differ l. still-alone row within-rows others-clear other l differ)
 
-    -- THEOREM: a row that no value has is flipped: the value has it then
+    -- THEOREM: a row that no value has is flipped
     module _ (none : NoHolder header (memory .words) row (header .values)) where
       pub add-sound : Sound header (flippedIn header memory value row)
       add-sound = flip-sound row within-rows (λ other l differ. none other l) (header .issued) (omega arith) below (within header (s .within) .fewIssued)
-
-      pub add-holds : rowAt (rowsIn header (flippedIn header memory value row .words) value) row ≡ 1
-      add-holds = omega (arith, flip-bit row within-rows, none value h)

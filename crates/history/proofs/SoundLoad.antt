@@ -9,6 +9,7 @@ use native.Mathlib.Omega.{arith}
 use lib.Dec.{eqb}
 use lib.ListN.{length, getD}
 use borrow.Author.Tests.{le-leb, ltb-false, eqb-true, not-false}
+use Rattle.answers.proofs.Accepted.{Passes}
 use Rattle.words.specs.Rows.{rowAt}
 use Rattle.words.specs.Words.{decode}
 use Rattle.words.proofs.Tail.{clearFrom-rowAt}
@@ -19,7 +20,8 @@ use Rattle.blocks.proofs.Sizes.{place-fits}
 use Rattle.index.specs.Memory.{Memory, limits, withinLimits, shapeOf, lent, blockAt, rowsIn}
 use Rattle.index.specs.Soundness.{SoundLists, FencesRight, Sound}
 use Rattle.index.specs.Outcomes.{After, made}
-use Rattle.index.specs.Calls.{loadedIn, validColumn, noHeader, loadHeader, loadChecks, loadAfter}
+use Rattle.index.specs.Entry.{validColumn}
+use Rattle.index.specs.Calls.{loadedIn, noHeader, loadHeader, loadChecks, loadAfter}
 use Rattle.index.specs.declared.header.Header.{Header}
 use Rattle.history.proofs.Accepting.{change-accepted, passes-change}
 use Rattle.history.proofs.Changes.{replaced, others-right}
@@ -103,6 +105,13 @@ module _ (header : Header) (column : List ℕ) (memory : Memory) (w : withinLimi
       (canonical-listFor (shapeOf header) limits-hold value column few)
       (λ row past. clearFrom-rowAt (length column) (decode list) (clear-listFor (shapeOf header) limits-hold value column few) row (omega arith)))
 
+  -- as many words and fences are lent as before
+  pub loaded-words : length (loadedIn header column (header .values) memory .words) ≡ length (memory .words)
+  loaded-words = all .long-words
+
+  pub loaded-fences : length (loadedIn header column (header .values) memory .fences) ≡ length (memory .fences)
+  loaded-fences = all .long-fences
+
   -- THEOREM: the index of a column is sound
   pub loaded-sound : header .issued ≡ length column → Sound header (loadedIn header column (header .values) memory)
   loaded-sound issued =
@@ -124,26 +133,35 @@ module _ (rows values threshold spacing : ℕ) (column : List ℕ) (memory : Mem
   -- what an accepted load leaves
   pub record LoadLeaves (after : After) : Type 0 where
     pub is : after ≡ made 0 header (loadedIn header column values memory)
-    pub sound : Sound header (after .memory)
+    pub long-words : length (after .memory .words) ≡ length (memory .words)
+    pub long-fences : length (after .memory .fences) ≡ length (memory .fences)
+    pub isSound : Sound header (after .memory)
     pub rowsAre : (value : ℕ) → value < values → rowsIn header (after .memory .words) value ≡ groupsWith (shapeOf header) value column
     pub valid : validColumn values column ≡ true
 
-  -- THEOREM: a load that is accepted leaves a sound index of the column
-  pub load-sound : loadAfter rows values threshold spacing column memory .answer .number ≡ 0 → LoadLeaves (loadAfter rows values threshold spacing column memory)
-  unfolding loadAfter withinLimits
-  load-sound e =
-      let checks = loadChecks rows values threshold spacing column memory in
-      let done = made 0 header (loadedIn header column values memory) in
-      let passes = change-accepted checks noHeader memory done e in
+  -- THEOREM: a load that no check refuses leaves a sound index of the column
+  pub loaded-leaves : Passes (loadChecks rows values threshold spacing column memory) → LoadLeaves (made 0 header (loadedIn header column values memory))
+  unfolding withinLimits
+  loaded-leaves passes =
       let bounds = not-false (limits rows values threshold spacing) (passes .0) in
       let lends = not-false (lent header (length (memory .words)) (length (memory .fences))) (passes .1 .0) in
       let few = ltb-false rows (length column) (passes .1 .1 .1 .0) in
       let room = lent-says header (length (memory .words)) (length (memory .fences)) lends in
       let w : withinLimits header ≡ true = rw (bounds, le-leb (length column) rows few) refl in
-      rw (passes-change checks noHeader memory done passes)
-      (record {
+      record {
         is = refl;
-        sound = loaded-sound header column memory w few (room .0) (room .1) refl;
+        long-words = loaded-words header column memory w few (room .0) (room .1);
+        long-fences = loaded-fences header column memory w few (room .0) (room .1);
+        isSound = loaded-sound header column memory w few (room .0) (room .1) refl;
         rowsAre = loaded-rows header column memory w few (room .0) (room .1);
         valid = not-false (validColumn values column) (passes .1 .1 .0);
-      })
+      }
+
+  -- THEOREM: and so does a load that is accepted
+  pub load-sound : loadAfter rows values threshold spacing column memory .answer .number ≡ 0 → LoadLeaves (loadAfter rows values threshold spacing column memory)
+  unfolding loadAfter
+  load-sound e =
+      let checks = loadChecks rows values threshold spacing column memory in
+      let done = made 0 header (loadedIn header column values memory) in
+      let passes = change-accepted checks noHeader memory done e in
+      rw (passes-change checks noHeader memory done passes) (loaded-leaves passes)

@@ -537,6 +537,40 @@ module _ {M : Type 1} {𝓤 : URA M} {H : Heap 𝓤} {A : Atoms 𝓤} {K : Type 
           qed W (‵ (fsep (flft (κs .0) q₀) (fsep (flft (κs .1 .0) fullShare) (fsep (ShrSlice (named 0) (κs .0) R₀ .own (ref b₀ o₀ δ₀ ys₀) (sliceVal (b₀, o₀) n₀ ∷ [])) (MutSlice (named 0) (κs .1 .0) R₁ .own (ref b₁ o₁ δ₁ ys₁) (sliceVal (b₁, o₁) n₁ ∷ []))))) ∷ []) ∵ fsplit ! $ move ! (1 ∷ []) $ fsplit ! $ move ! (1 ∷ []) $ fsplit ! $
           use0 W (raw (c κs (ref b₀ o₀ δ₀ ys₀, (ref b₁ o₁ δ₁ ys₁, a κs)) .requires (g κs δ₀ δ₁))) (req κs δ₀ δ₁) $ use0 W (‵ (owns (typesAt ss κs) (a κs) (vss κs))) (own κs) $ move ! (3 ∷ 0 ∷ []) $ fjoin ! $ move ! (2 ∷ 0 ∷ []) $ fjoin ! $ nothing ! $ move ! (3 ∷ 0 ∷ []) $ join ! $ move ! (3 ∷ 0 ∷ []) $ join ! $ join ! $ frame ! $ done !
 
+  pub calls-shr-shr-last : K → FmC 𝓤 H (W .laws) C → (R₀ R₁ Q : RattleType) (ss : List (Slot 2)) (ks : Kepts ss) (c : Clauses 𝓤 (shr-shr-ended R₀ R₁ Q ss ks)) → Triple 𝓤 (C f) (contractOf 𝓤 H A (shr-shr-ended R₀ R₁ Q ss ks) c)
+      → {κ₀ : Lft} {q₀ : Share} (b₀ o₀ : ℕ) (γ₀ : GName) (ys₀ : List (R₀ .Denot)) (n₀ : ℕ) → length ys₀ ≡ n₀
+      → {κ₁ : Lft} {q₁ : Share} (b₁ o₁ : ℕ) (γ₁ : GName) (ys₁ : List (R₁ .Denot)) (n₁ : ℕ) → length ys₁ ≡ n₁
+      → (a : (κs : Lfts 2) → Denots (typesAt ss κs)) (vss : (κs : Lfts 2) → Valss (typesAt ss κs)) → ((κs : Lfts 2) → ent 𝓤 (emp 𝓤) (sem 𝓤 H A (owns (typesAt ss κs) (a κs) (vss κs))))
+      → (g : (κs : Lfts 2) (δ₀ δ₁ : GName) → c κs (ref b₀ o₀ δ₀ ys₀, (ref b₁ o₁ δ₁ ys₁, a κs)) .ghost) → ((κs : Lfts 2) (δ₀ δ₁ : GName) → ent 𝓤 (emp 𝓤) (c κs (ref b₀ o₀ δ₀ ys₀, (ref b₁ o₁ δ₁ ys₁, a κs)) .requires (g κs δ₀ δ₁)))
+      → (ψ : Q .Denot → Type 0) → ((κs : Lfts 2) (δ₀ δ₁ : GName) (r : Q .Denot) (ws : Lasts (shr-shr-ended R₀ R₁ Q ss ks) κs (ref b₀ o₀ δ₀ ys₀, (ref b₁ o₁ δ₁ ys₁, a κs))) → ent 𝓤 (c κs (ref b₀ o₀ δ₀ ys₀, (ref b₁ o₁ δ₁ ys₁, a κs)) .ensures (g κs δ₀ δ₁) r (atExit (shr-shr-ended R₀ R₁ Q ss ks) κs (ref b₀ o₀ δ₀ ys₀, (ref b₁ o₁ δ₁ ys₁, a κs)) ws)) (fact 𝓤 (ψ r)))
+      → ((κs : Lfts 2) (δ₀ δ₁ : GName) → Opds K W (raw (contractOf 𝓤 H A (shr-shr-ended R₀ R₁ Q ss ks) c .pre ((κs, (q₀, (q₁, tt)), tt, (ref b₀ o₀ δ₀ ys₀, (ref b₁ o₁ δ₁ ys₁, a κs)), (sliceVal (b₀, o₀) n₀ ∷ [], (sliceVal (b₁, o₁) n₁ ∷ [], vss κs))), g κs δ₀ δ₁)) ∷ ‵ ftrue ∷ ‵ (ShrSlice (named 0) κ₀ R₀ .own (ref b₀ o₀ γ₀ ys₀) (sliceVal (b₀, o₀) n₀ ∷ [])) ∷ ‵ (ShrSlice (named 0) κ₁ R₁ .own (ref b₁ o₁ γ₁ ys₁) (sliceVal (b₁, o₁) n₁ ∷ [])) ∷ Γ) E xs (sliceVal (b₀, o₀) n₀ ∷ sliceVal (b₁, o₁) n₁ ∷ flat (typesAt ss κs) (vss κs)))
+      → ((u : Val) (r : Q .Denot) → ψ r → Is Q r (u ∷ []) → Seq K W (‵ (flft κ₀ q₀) ∷ ‵ (ShrSlice (named 0) κ₀ R₀ .own (ref b₀ o₀ γ₀ ys₀) (sliceVal (b₀, o₀) n₀ ∷ [])) ∷ ‵ (flft κ₁ q₁) ∷ ‵ (ShrSlice (named 0) κ₁ R₁ .own (ref b₁ o₁ γ₁ ys₁) (sliceVal (b₁, o₁) n₁ ∷ [])) ∷ Γ) (settles E d u p))
+      → Seq K W (‵ (flft κ₀ q₀) ∷ ‵ (ShrSlice (named 0) κ₀ R₀ .own (ref b₀ o₀ γ₀ ys₀) (sliceVal (b₀, o₀) n₀ ∷ [])) ∷ ‵ (flft κ₁ q₁) ∷ ‵ (ShrSlice (named 0) κ₁ R₁ .own (ref b₁ o₁ γ₁ ys₁) (sliceVal (b₁, o₁) n₁ ∷ [])) ∷ Γ) (runs C Λ E (call f xs d) p)
+  calls-shr-shr-last t fm R₀ R₁ Q ss ks c known {κ₀} {q₀} b₀ o₀ γ₀ ys₀ n₀ en₀ {κ₁} {q₁} b₁ o₁ γ₁ ys₁ n₁ en₁ a vss own g req ψ ens os k =
+      lend-shr t R₀ (ref b₀ o₀ γ₀ ys₀) (sliceVal (b₀, o₀) n₀ ∷ []) (
+      move t (3 ∷ 4 ∷ []) $ lend-shr t R₁ (ref b₁ o₁ γ₁ ys₁) (sliceVal (b₁, o₁) n₁ ∷ []) (
+      move t (1 ∷ 4 ∷ 0 ∷ 3 ∷ []) $ move t (1 ∷ 0 ∷ []) $ fjoin t $ move t (1 ∷ 0 ∷ []) $ fjoin t $ move t (1 ∷ 0 ∷ []) $ fjoin t $ use1 W (raw (pre (κ₀, (κ₁, tt)) γ₀ γ₁)) (goes (κ₀, (κ₁, tt)) γ₀ γ₁) $ nothing t $ move t (1 ∷ 0 ∷ 3 ∷ 2 ∷ []) $
+      calls-at-last t fm (contractOf 𝓤 H A (shr-shr-ended R₀ R₁ Q ss ks) c) known (y (κ₀, (κ₁, tt)) γ₀ γ₁) (os (κ₀, (κ₁, tt)) γ₀ γ₁) (λ u.
+      use1 W (later (some (λ (r : Q .Denot). ((‵ (flft κ₀ q₀) ⊛ (‵ (flft κ₁ q₁) ⊛ ‵ ftrue)) ⊛ ‵ (Q .own r (u ∷ []))) ⊛ raw (ensured 𝓤 H A (shr-shr-ended R₀ R₁ Q ss ks) c (κ₀, (κ₁, tt)) (args (κ₀, (κ₁, tt)) γ₀ γ₁) (g (κ₀, (κ₁, tt)) γ₀ γ₁) r)))) (id⊢ 𝓤 _) $ await t tt $ pick t (λ r. split t $ move t (1 ∷ []) $
+      use1 W (some (λ (ws : Lasts (shr-shr-ended R₀ R₁ Q ss ks) (κ₀, (κ₁, tt)) (args (κ₀, (κ₁, tt)) γ₀ γ₁)). ‵ (lasts (shr-shr-ended R₀ R₁ Q ss ks) (κ₀, (κ₁, tt)) (args (κ₀, (κ₁, tt)) γ₀ γ₁) ws) ⊛ raw (c (κ₀, (κ₁, tt)) (args (κ₀, (κ₁, tt)) γ₀ γ₁) .ensures (g (κ₀, (κ₁, tt)) γ₀ γ₁) r (atExit (shr-shr-ended R₀ R₁ Q ss ks) (κ₀, (κ₁, tt)) (args (κ₀, (κ₁, tt)) γ₀ γ₁) ws)))) (id⊢ 𝓤 _) $ pick t (λ ws. split t $ move t (1 ∷ []) $
+      use1 W (raw (fact 𝓤 (ψ r))) (ens (κ₀, (κ₁, tt)) γ₀ γ₁ r ws) $ heard t (ψ r) (λ e.
+      fsplit t $ drop t $ fsplit t $ drop t $ drop t $ split t $ move t (1 ∷ []) $ peeks t Q (Is Q) (shows 𝓤 H A Q) r (u ∷ []) (λ is. drop t $ split t $ move t (1 ∷ []) $ split t $ move t (1 ∷ []) $ drop t $
+      move t (2 ∷ []) $ drop t $ move t (1 ∷ 2 ∷ 0 ∷ 3 ∷ []) $ k u r e is)))))))
+    where
+      args : (κs : Lfts 2) (δ₀ δ₁ : GName) → Args ((shr-shr-ended R₀ R₁ Q ss ks) .signature) κs
+      args κs δ₀ δ₁ = (ref b₀ o₀ δ₀ ys₀, (ref b₁ o₁ δ₁ ys₁, a κs))
+
+      y : (κs : Lfts 2) (δ₀ δ₁ : GName) → contractOf 𝓤 H A (shr-shr-ended R₀ R₁ Q ss ks) c .Ghost
+      y κs δ₀ δ₁ = ((κs, (q₀, (q₁, tt)), tt, (ref b₀ o₀ δ₀ ys₀, (ref b₁ o₁ δ₁ ys₁, a κs)), (sliceVal (b₀, o₀) n₀ ∷ [], (sliceVal (b₁, o₁) n₁ ∷ [], vss κs))), g κs δ₀ δ₁)
+
+      pre : (κs : Lfts 2) (δ₀ δ₁ : GName) → SProp 𝓤
+      pre κs δ₀ δ₁ = contractOf 𝓤 H A (shr-shr-ended R₀ R₁ Q ss ks) c .pre (y κs δ₀ δ₁)
+
+      goes : (κs : Lfts 2) (δ₀ δ₁ : GName) → ent 𝓤 (sem 𝓤 H A (fsep (flft (κs .0) q₀) (fsep (flft (κs .1 .0) q₁) (fsep (ShrSlice (named 0) (κs .0) R₀ .own (ref b₀ o₀ δ₀ ys₀) (sliceVal (b₀, o₀) n₀ ∷ [])) (ShrSlice (named 0) (κs .1 .0) R₁ .own (ref b₁ o₁ δ₁ ys₁) (sliceVal (b₁, o₁) n₁ ∷ [])))))) (pre κs δ₀ δ₁)
+      goes κs δ₀ δ₁ =
+          qed W (‵ (fsep (flft (κs .0) q₀) (fsep (flft (κs .1 .0) q₁) (fsep (ShrSlice (named 0) (κs .0) R₀ .own (ref b₀ o₀ δ₀ ys₀) (sliceVal (b₀, o₀) n₀ ∷ [])) (ShrSlice (named 0) (κs .1 .0) R₁ .own (ref b₁ o₁ δ₁ ys₁) (sliceVal (b₁, o₁) n₁ ∷ []))))) ∷ []) ∵ fsplit ! $ move ! (1 ∷ []) $ fsplit ! $ move ! (1 ∷ []) $ fsplit ! $
+          use0 W (raw (c κs (ref b₀ o₀ δ₀ ys₀, (ref b₁ o₁ δ₁ ys₁, a κs)) .requires (g κs δ₀ δ₁))) (req κs δ₀ δ₁) $ use0 W (‵ (owns (typesAt ss κs) (a κs) (vss κs))) (own κs) $ move ! (3 ∷ 0 ∷ []) $ fjoin ! $ move ! (2 ∷ 0 ∷ []) $ fjoin ! $ nothing ! $ move ! (3 ∷ 0 ∷ []) $ join ! $ move ! (3 ∷ 0 ∷ []) $ join ! $ join ! $ frame ! $ done !
+
   pub calls-shr-shr-mut-last : K → FmC 𝓤 H (W .laws) C → (R₀ R₁ R₂ Q : RattleType) (ss : List (Slot 3)) (ks : Kepts ss) (c : Clauses 𝓤 (shr-shr-mut-ended R₀ R₁ R₂ Q ss ks)) → Triple 𝓤 (C f) (contractOf 𝓤 H A (shr-shr-mut-ended R₀ R₁ R₂ Q ss ks) c)
       → {κ₀ : Lft} {q₀ : Share} (b₀ o₀ : ℕ) (γ₀ : GName) (ys₀ : List (R₀ .Denot)) (n₀ : ℕ) → length ys₀ ≡ n₀
       → {κ₁ : Lft} {q₁ : Share} (b₁ o₁ : ℕ) (γ₁ : GName) (ys₁ : List (R₁ .Denot)) (n₁ : ℕ) → length ys₁ ≡ n₁

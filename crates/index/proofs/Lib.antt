@@ -18,4 +18,5 @@ pub mod Planning
 pub mod Refusing
 pub mod RowLaws
 pub mod Taken
+pub mod Taking
 pub mod ValuePapers

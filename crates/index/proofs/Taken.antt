@@ -87,74 +87,74 @@ SoundUpTo header words values = (value : ℕ) → value < values → soundLists 
 
 module _ (header : Header) (words : List ℕ) (limits : Limits (shapeOf header)) where
   sound-before : (values : ℕ) → SoundUpTo header words (suc values) → SoundUpTo header words values
-  sound-before values sound value h = sound value (omega arith)
+  sound-before values isSound value h = isSound value (omega arith)
 
   rowsIn-long : (values value : ℕ) → SoundUpTo header words values → value < values → length (rowsIn header words value) ≡ shapeOf header .groups
   unfolding rowsIn
-  rowsIn-long values value sound h =
+  rowsIn-long values value isSound h =
       length-current (shapeOf header) limits (blockAt header words value)
-      (sound-parts (shapeOf header) (header .issued) (blockAt header words value) (sound value h) .whole)
+      (sound-parts (shapeOf header) (header .issued) (blockAt header words value) (isSound value h) .whole)
 
   -- no value has a row that is not issued
   rowsIn-clear : (values value row : ℕ) → SoundUpTo header words values → value < values → header .issued ≤ row → rowAt (rowsIn header words value) row ≡ 0
   unfolding rowsIn
-  rowsIn-clear values value row sound h past =
+  rowsIn-clear values value row isSound h past =
       clearFrom-rowAt (header .issued) (rowsIn header words value)
-      (sound-current (shapeOf header) (header .issued) (blockAt header words value) limits (sound value h)) row past
+      (sound-current (shapeOf header) (header .issued) (blockAt header words value) limits (isSound value h)) row past
 
   pub taken-long : (values : ℕ) → SoundUpTo header words values → length (takenBefore header words values) ≡ shapeOf header .groups
-  taken-long zero sound = length-replicate (shapeOf header .groups) 0
-  taken-long (suc values) sound =
-      let before = taken-long values (sound-before values sound) in
+  taken-long zero isSound = length-replicate (shapeOf header .groups) 0
+  taken-long (suc values) isSound =
+      let before = taken-long values (sound-before values isSound) in
       length-combined either (takenBefore header words values) (rowsIn header words values)
-      (before ∙ sym (rowsIn-long (suc values) values sound (omega arith)))
+      (before ∙ sym (rowsIn-long (suc values) values isSound (omega arith)))
       ∙ before
 
   taken-same : (values : ℕ) → SoundUpTo header words (suc values) → length (takenBefore header words values) ≡ length (rowsIn header words values)
-  taken-same values sound = taken-long values (sound-before values sound) ∙ sym (rowsIn-long (suc values) values sound (omega arith))
+  taken-same values isSound = taken-long values (sound-before values isSound) ∙ sym (rowsIn-long (suc values) values isSound (omega arith))
 
   -- a row is taken where it has a holder
   rowAt-taken : (values row : ℕ) → SoundUpTo header words values → rowAt (takenBefore header words values) row ≡ held (holdersOf header words row values)
-  rowAt-taken zero row sound = rowAt-zeros (shapeOf header .groups) row
-  rowAt-taken (suc values) row sound =
-      rowAt-combined-any either either-bits (takenBefore header words values) (rowsIn header words values) row (taken-same values sound) refl
-      ∙ ap (λ (bit : ℕ). answer either bit (rowAt (rowsIn header words values) row)) (rowAt-taken values row (sound-before values sound))
+  rowAt-taken zero row isSound = rowAt-zeros (shapeOf header .groups) row
+  rowAt-taken (suc values) row isSound =
+      rowAt-combined-any either either-bits (takenBefore header words values) (rowsIn header words values) row (taken-same values isSound) refl
+      ∙ ap (λ (bit : ℕ). answer either bit (rowAt (rowsIn header words values) row)) (rowAt-taken values row (sound-before values isSound))
       ∙ either-bit (holdersOf header words row values) (rowAt (rowsIn header words values) row) (omega arith)
 
   apart-few : (values : ℕ) → SoundUpTo header words values → apartUpTo header words values ≡ true → (row : ℕ) → holdersOf header words row values ≤ 1
-  apart-few zero sound e row = omega arith
-  apart-few (suc values) sound e row =
+  apart-few zero isSound e row = omega arith
+  apart-few (suc values) isSound e row =
       let both = and-eq-true-iff (apartUpTo header words values) (apart (takenBefore header words values) (rowsIn header words values)) .0 e in
       shared-bit (holdersOf header words row values) (rowAt (rowsIn header words values) row) (omega arith)
-      (rw (rowAt-taken values row (sound-before values sound)) at
-      (apart-rows (takenBefore header words values) (rowsIn header words values) (taken-same values sound) (both .1) row))
-      (apart-few values (sound-before values sound) (both .0) row)
+      (rw (rowAt-taken values row (sound-before values isSound)) at
+      (apart-rows (takenBefore header words values) (rowsIn header words values) (taken-same values isSound) (both .1) row))
+      (apart-few values (sound-before values isSound) (both .0) row)
 
   few-apart : (values : ℕ) → SoundUpTo header words values → ((row : ℕ) → row < header .issued → holdersOf header words row values ≤ 1)
       → apartUpTo header words values ≡ true
-  few-apart zero sound few = refl
-  few-apart (suc values) sound few =
+  few-apart zero isSound few = refl
+  few-apart (suc values) isSound few =
       rw (
-        few-apart values (sound-before values sound) (λ row h. omega (arith, few row h)),
-        rows-apart (takenBefore header words values) (rowsIn header words values) (taken-same values sound) none,
+        few-apart values (sound-before values isSound) (λ row h. omega (arith, few row h)),
+        rows-apart (takenBefore header words values) (rowsIn header words values) (taken-same values isSound) none,
       )
       refl
     where
       none : (row : ℕ) → answer shared (rowAt (takenBefore header words values) row) (rowAt (rowsIn header words values) row) ≡ 0
-      none row = rw (rowAt-taken values row (sound-before values sound)) (go (ltb row (header .issued)) refl)
+      none row = rw (rowAt-taken values row (sound-before values isSound)) (go (ltb row (header .issued)) refl)
         where
           go : (t : Bool) → ltb row (header .issued) ≡ t
               → answer shared (held (holdersOf header words row values)) (rowAt (rowsIn header words values) row) ≡ 0
           go true p = bit-shared (holdersOf header words row values) (rowAt (rowsIn header words values) row) (few row (ltb-true row (header .issued) p))
           go false p =
-              rw (rowsIn-clear (suc values) values row sound (omega arith) (ltb-false row (header .issued) p)) (shared-none (holdersOf header words row values))
+              rw (rowsIn-clear (suc values) values row isSound (omega arith) (ltb-false row (header .issued) p)) (shared-none (holdersOf header words row values))
 
   -- THEOREM: the first values, each apart from those before it, have every issued row at most once, and back
   pub apart-holders : (values : ℕ) → SoundUpTo header words values
       → apartUpTo header words values ≡ every (header .issued) (λ row. leb (holdersOf header words row values) 1)
-  apart-holders values sound =
+  apart-holders values isSound =
       same-test (apartUpTo header words values) (every (header .issued) (λ row. leb (holdersOf header words row values) 1))
       (λ e. holds-every (header .issued) (λ row. leb (holdersOf header words row values) 1)
-      (λ row h. le-leb (holdersOf header words row values) 1 (apart-few values sound e row)))
-      (λ e. few-apart values sound
+      (λ row h. le-leb (holdersOf header words row values) 1 (apart-few values isSound e row)))
+      (λ e. few-apart values isSound
       (λ row h. leb-true (holdersOf header words row values) 1 (every-holds (header .issued) (λ row. leb (holdersOf header words row values) 1) e row h)))

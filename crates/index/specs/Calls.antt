@@ -15,7 +15,7 @@ use Rattle.blocks.specs.Change.{merged, mergeDue, flipped}
 use Rattle.blocks.specs.Column.{loaded}
 use Rattle.index.specs.Entry.{validColumn, headerFor}
 use Rattle.index.specs.Fences.{fencesFrom}
-use Rattle.index.specs.Memory.{Memory, limits, withinLimits, shapeOf, lent, blockAt, rowsIn, every, sound}
+use Rattle.index.specs.Memory.{Memory, limits, withinLimits, shapeOf, lent, blockAt, rowsIn, every, isSound}
 use Rattle.index.specs.Reading.{rowOf, isDamaged, isDeleted, isFree, refusedValue, valueOf, ValuePaper, valuePaper}
 use Rattle.index.specs.Outcomes.{After, made, change}
 use Rattle.index.specs.declared.header.Header.{Header}
@@ -136,7 +136,7 @@ module _ (header : Header) (memory : Memory) where
 
   -- Audit accepts exactly sound indexes
   unfoldable pub auditOutcome : Outcome
-  auditOutcome = outcome (badHeader header memory ∷ small header memory ∷ Damaged when not (sound header memory) ∷ []) [] []
+  auditOutcome = outcome (badHeader header memory ∷ small header memory ∷ Damaged when not (isSound header memory) ∷ []) [] []
 
   -- ---- Value, Dump
 

@@ -70,8 +70,8 @@ holdersOf header words row zero = 0
 holdersOf header words row (suc value) = holdersOf header words row value + rowAt (rowsIn header words value) row
 
 -- sound: the header is within its limits, every value is sound, and no row has a 1 in V xor U of two values
-unfoldable pub sound : Header → Memory → Bool
-sound header memory =
+unfoldable pub isSound : Header → Memory → Bool
+isSound header memory =
     withinLimits header
     && lent header (length (memory .words)) (length (memory .fences))
     && every (header .values) (soundValue header memory)

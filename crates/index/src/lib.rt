@@ -5,6 +5,7 @@
 // and programs.
 pub mod alter;
 pub mod answering;
+pub mod auditing;
 pub mod changing;
 pub mod dumping;
 pub mod entry;

@@ -1,0 +1,5 @@
+pub mod Calls
+pub mod Plain
+pub mod History
+pub mod Corollaries
+pub mod Promises
