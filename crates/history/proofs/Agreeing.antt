@@ -84,7 +84,7 @@ module _ (plain : Plain) (memory : Memory) (agrees : Agrees (over plain memory) 
 
 -- ---- in groups
 
-module _ (plain : Plain) (memory : Memory) (isSound : Sound (headerOf plain) memory) (value : ℕ) (h : value < plain .values) where
+module _ (plain : Plain) (memory : Memory) (sound : Sound (headerOf plain) memory) (value : ℕ) (h : value < plain .values) where
   abbrev shape : Shape
   shape = shapeOf (headerOf plain)
 
@@ -95,10 +95,10 @@ module _ (plain : Plain) (memory : Memory) (isSound : Sound (headerOf plain) mem
   block = blockAt (headerOf plain) (memory .words) value
 
   limits : Limits (shapeOf (headerOf plain))
-  limits = sound-limits (headerOf plain) memory isSound
+  limits = sound-limits (headerOf plain) memory sound
 
   whole : wholeLists (shapeOf (headerOf plain)) block ≡ true
-  whole = sound-whole (headerOf plain) memory isSound value h
+  whole = sound-whole (headerOf plain) memory sound value h
 
   fits : length (plain .column) ≤ plain .rows
   fits = within (headerOf plain) (sound .within) .fewIssued

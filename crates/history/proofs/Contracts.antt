@@ -21,13 +21,14 @@ use Rattle.index.specs.declared.header.Fence.{Fence}
 use Rattle.index.specs.declared.header.Header.{Header}
 use Rattle.index.proofs.answering.query as query
 use Rattle.index.proofs.answering.value as value
+use Rattle.index.proofs.auditing.audit as audit
 use Rattle.index.proofs.changing.delete as delete
 use Rattle.index.proofs.changing.insert as insert
 use Rattle.index.proofs.changing.merge as merge
 use Rattle.index.proofs.changing.update as update
 use Rattle.index.proofs.dumping.dump as dump
 use Rattle.index.proofs.loading.load as load
-use Rattle.history.specs.Calls.{Load, Query, Value, Insert, Update, Delete, Merge, Dump, Index, indexOf}
+use Rattle.history.specs.Calls.{Load, Query, Value, Insert, Update, Delete, Merge, Dump, Audit, Index, indexOf}
 use Rattle.history.specs.Promises.{Left, Written, Promised}
 
 -- the index of a header, with the words and fences lent
@@ -102,3 +103,9 @@ module _ {M : Type 1} (𝓤 : URA M) (H : Heap 𝓤) (A : Atoms 𝓤) (mem : Mac
         × (dump.clauses 𝓤 H A mem run κs args .ensures tt r ends
         ≡ fact 𝓤 (Promised (lentTo (args .1 .1 .1 .0) (args .0) (args .1 .0)) (Dump (now (args .1 .1 .0))) (writtenIn r (ends .1 .1 .0))))
     dump-promises = (refl, refl)
+
+  -- THEOREM: Audit
+  module _ (κs : Lfts 2) (args : Args audit.signature κs) (r : Res audit.signature κs) (ends : AtExit audit.ended κs) where
+    pub audit-promises : (audit.clauses 𝓤 H A mem run κs args .requires tt ≡ emp 𝓤)
+        × (audit.clauses 𝓤 H A mem run κs args .ensures tt r ends ≡ fact 𝓤 (Promised (lentTo (args .1 .1 .0) (args .0) (args .1 .0)) Audit r))
+    audit-promises = (refl, refl)

@@ -45,13 +45,13 @@ module _ (plain : Plain) (memory : Memory) (agrees : Agrees (over plain memory) 
         → Sound (issuing (headerOf plain) (length column)) (flippedIn (headerOf plain) memory value row)
         → ((each : ℕ) → each < plain .values → HasByte column row each)
         → Agrees (indexOf (issuing (headerOf plain) (length column)) (flippedIn (headerOf plain) memory value row)) (withColumn plain column)
-    flip-agrees column valid same isSound here =
+    flip-agrees column valid same sound here =
         let only = flip-replaces header memory s value h row inside .only in
         record {
           header = refl;
           words = only .long-words ∙ agrees .words;
           fences = only .long-fences ∙ agrees .fences;
-          isSound = isSound;
+          sound = sound;
           bytes = valid;
           rows = λ there each l.
               rw (issuing-rows header (length column) (after .words) each)

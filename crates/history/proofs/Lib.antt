@@ -1,6 +1,7 @@
 pub mod Accepting
 pub mod Agreeing
 pub mod AnsweringAgrees
+pub mod Cases
 pub mod Changes
 pub mod CodeHistory
 pub mod ColumnBytes

@@ -30,7 +30,7 @@ module _ (rows values threshold spacing : ℕ) (column : List ℕ) where
           header = given;
           words = leaves .long-words;
           fences = leaves .long-fences;
-          isSound = rw given (leaves .sound);
+          sound = rw given (leaves .sound);
           bytes = leaves .valid;
           rows = λ row value h. rw (given, leaves .rowsAre value h) (row-with loaded (after .memory) (leaves .sound) value h row);
         }

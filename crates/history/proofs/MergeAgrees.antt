@@ -33,7 +33,7 @@ module _ (plain : Plain) (memory : Memory) (agrees : Agrees (over plain memory) 
         header = refl;
         words = only .long-words ∙ agrees .words;
         fences = only .long-fences ∙ agrees .fences;
-        isSound = merge-sound header memory s value h;
+        sound = merge-sound header memory s value h;
         bytes = agrees .bytes;
         rows = λ row each l. rw (merge-rows header memory s value h each) (agrees .rows row each l);
       }

@@ -135,7 +135,7 @@ module _ (rows values threshold spacing : ℕ) (column : List ℕ) (memory : Mem
     pub is : after ≡ made 0 header (loadedIn header column values memory)
     pub long-words : length (after .memory .words) ≡ length (memory .words)
     pub long-fences : length (after .memory .fences) ≡ length (memory .fences)
-    pub isSound : Sound header (after .memory)
+    pub sound : Sound header (after .memory)
     pub rowsAre : (value : ℕ) → value < values → rowsIn header (after .memory .words) value ≡ groupsWith (shapeOf header) value column
     pub valid : validColumn values column ≡ true
 
@@ -152,7 +152,7 @@ module _ (rows values threshold spacing : ℕ) (column : List ℕ) (memory : Mem
         is = refl;
         long-words = loaded-words header column memory w few (room .0) (room .1);
         long-fences = loaded-fences header column memory w few (room .0) (room .1);
-        isSound = loaded-sound header column memory w few (room .0) (room .1) refl;
+        sound = loaded-sound header column memory w few (room .0) (room .1) refl;
         rowsAre = loaded-rows header column memory w few (room .0) (room .1);
         valid = not-false (validColumn values column) (passes .1 .1 .0);
       }

@@ -1,25 +1,26 @@
 -- The tests of what is lent, of a value's lists and of its fences say just what document 01's sentence says of them. Assumes nothing.
 use mathlib.Core.Path.{_≡_, refl, _∙_, sym}
 use mathlib.Core.Bool.{true, and-eq-true-iff}
-use mathlib.Core.List.{List, [], _∷_}
-use Prim.Native.Nat.{ℕ, zero, suc, _+_, _*_, _-_, _<_, _≤_}
-use native.Mathlib.Nat.{zero-add, add-zero}
+use mathlib.Core.List.{List}
+use Prim.Native.Nat.{ℕ, _+_, _*_, _-_, _<_, _≤_}
+use native.Mathlib.Nat.{zero-add}
 use native.Mathlib.Omega.{arith}
 use lib.Dec.{leb, eqb}
 use lib.ListN.{length, getD, drop}
 use lib.Seq.{getD-drop}
 use borrow.Author.Tests.{leb-true, le-leb, eqb-true, eq-eqb}
-use Rattle.words.specs.Rows.{allZero, clearFrom}
+use Rattle.words.specs.Rows.{allZero}
 use Rattle.words.specs.Words.{decode}
 use Rattle.words.proofs.Tail.{allZero-getD, getD-allZero, clearFrom-rowAt, rowAt-clearFrom}
 use Rattle.blocks.specs.Shape.{blockSize, fenceCount}
 use Rattle.blocks.specs.Block.{valueLength, updateLength, valueWords, updateWords, valueList, updateList}
-use Rattle.blocks.specs.Whole.{wholeLists}
 use Rattle.blocks.specs.Fences.{fenceAt}
 use Rattle.blocks.specs.declared.shape.Shape.{Shape}
 use Rattle.blocks.proofs.Parts.{length-part}
+use Rattle.blocks.specs.Audit.{soundLists}
+use Rattle.blocks.proofs.SoundLists.{sound-parts, parts-sound}
 use Rattle.blocks.proofs.WholeLists.{whole-parts}
-use Rattle.index.specs.Memory.{Memory, shapeOf, lent, blockAt, fencesAt, soundBlock, soundValue}
+use Rattle.index.specs.Memory.{Memory, shapeOf, lent, blockAt, fencesAt, soundValue}
 use Rattle.index.specs.Fences.{noFence, isFence, rightFences}
 use Rattle.index.specs.Soundness.{SoundLists, Holds, FencesRight}
 use Rattle.index.specs.declared.header.Header.{Header}
@@ -69,41 +70,36 @@ module _ (header : Header) (block : List ℕ) where
   issued = header .issued
 
   -- THEOREM: the test of a block, and the sentence
-  pub block-says : soundBlock header block ≡ true → SoundLists (shapeOf header) (header .issued) block
-  unfolding soundBlock
+  pub block-says : soundLists (shapeOf header) (header .issued) block ≡ true → SoundLists (shapeOf header) (header .issued) block
   block-says e =
-      let four = and-eq-true-iff _ (allZero (drop (updateLength block) (updateWords shape block))) .0 e in
-      let three = and-eq-true-iff _ (allZero (drop (valueLength block) (valueWords shape block))) .0 (four .0) in
-      let two = and-eq-true-iff _ (clearFrom issued (decode (updateList shape block))) .0 (three .0) in
-      let one = and-eq-true-iff (wholeLists shape block) (clearFrom issued (decode (valueList shape block))) .0 (two .0) in
-      let parts = whole-parts shape block (one .0) in
+      let parts = sound-parts shape issued block e in
+      let whole = whole-parts shape block (parts .whole) in
       record {
         value = record {
-          fits = parts .value-short;
-          form = parts .value-canonical;
-          clear = clearFrom-rowAt issued (decode (valueList shape block)) (one .1);
-          unused = zero-from (valueLength block) (valueWords shape block) (three .1);
+          fits = whole .value-short;
+          form = whole .value-canonical;
+          clear = clearFrom-rowAt issued (decode (valueList shape block)) (parts .value-clear);
+          unused = zero-from (valueLength block) (valueWords shape block) (parts .value-unused);
         };
         update = record {
-          fits = parts .update-short;
-          form = parts .update-canonical;
-          clear = clearFrom-rowAt issued (decode (updateList shape block)) (two .1);
-          unused = zero-from (updateLength block) (updateWords shape block) (four .1);
+          fits = whole .update-short;
+          form = whole .update-canonical;
+          clear = clearFrom-rowAt issued (decode (updateList shape block)) (parts .update-clear);
+          unused = zero-from (updateLength block) (updateWords shape block) (parts .update-unused);
         };
-        few-ones = parts .few-ones;
+        few-ones = whole .few-ones;
       }
 
-  pub says-block : SoundLists (shapeOf header) (header .issued) block → soundBlock header block ≡ true
-  unfolding soundBlock
+  pub says-block : SoundLists (shapeOf header) (header .issued) block → soundLists (shapeOf header) (header .issued) block ≡ true
   says-block s =
-      rw (
-        lists-whole s,
-        rowAt-clearFrom issued (decode (valueList shape block)) (s .value .clear),
-        rowAt-clearFrom issued (decode (updateList shape block)) (s .update .clear),
-        from-zero (valueLength block) (valueWords shape block) (s .value .unused),
-        from-zero (updateLength block) (updateWords shape block) (s .update .unused),
-      )
-      refl
+      parts-sound shape issued block
+      (record {
+        whole = lists-whole s;
+        value-clear = rowAt-clearFrom issued (decode (valueList shape block)) (s .value .clear);
+        update-clear = rowAt-clearFrom issued (decode (updateList shape block)) (s .update .clear);
+        value-unused = from-zero (valueLength block) (valueWords shape block) (s .value .unused);
+        update-unused = from-zero (updateLength block) (updateWords shape block) (s .update .unused);
+      })
 
 -- ---- fences
 
@@ -153,7 +149,7 @@ module _ (header : Header) (memory : Memory) (value : ℕ)
   unfolding soundValue
   value-says e =
       let block = blockAt header (memory .words) value in
-      let both = and-eq-true-iff (soundBlock header block) (rightFences (shapeOf header) list 0 (fencesAt header (memory .fences) value)) .0 e in
+      let both = and-eq-true-iff (soundLists (shapeOf header) (header .issued) block) (rightFences (shapeOf header) list 0 (fencesAt header (memory .fences) value)) .0 e in
       (block-says header block (both .0), fences-say (both .1))
 
   pub says-value : SoundLists (shapeOf header) (header .issued) (blockAt header (memory .words) value) → FencesRight header memory value

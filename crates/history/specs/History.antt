@@ -27,7 +27,7 @@ pub record Agrees (index : Index) (plain : Plain) : Type 0 where
   pub header : index .header ≡ headerOf plain
   pub words : length (index .memory .words) ≡ plain .words
   pub fences : length (index .memory .fences) ≡ plain .fences
-  pub isSound : Sound (index .header) (index .memory)
+  pub sound : Sound (index .header) (index .memory)
   pub bytes : validColumn (plain .values) (plain .column) ≡ true
   pub rows : (row value : ℕ) → value < plain .values → bitOf index value row ≡ cond (eqb (byteAt (plain .column) row) value) 1 0
 

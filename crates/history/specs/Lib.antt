@@ -1,5 +1,6 @@
 pub mod Calls
-pub mod Plain
-pub mod History
+pub mod Cases
 pub mod Corollaries
+pub mod History
+pub mod Plain
 pub mod Promises

@@ -1,7 +1,6 @@
 pub mod Bits
 pub mod Calls
 pub mod Canonical
-pub mod Cases
 pub mod Forms
 pub mod Gather
 pub mod Group

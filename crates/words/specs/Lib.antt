@@ -3,4 +3,3 @@ pub mod Words
 pub mod Writer
 pub mod Check
 pub mod Calls
-pub mod Cases

@@ -1,0 +1,28 @@
+-- The marked cases hold, all of them by one computation. Assumes nothing.
+use mathlib.Core.Path.{refl}
+use Rattle.words.specs.Rows.{groupsOf, clearFrom}
+use Rattle.words.specs.Words.{runOf, addGroup, packed, canonical}
+use Rattle.words.specs.Calls.{packOutcome}
+use Rattle.lists.specs.Combine.{onGroup}
+use Rattle.lists.specs.OneRow.{turnedOver}
+use Rattle.lists.specs.Walk.{walkTo}
+use Rattle.blocks.specs.Shape.{fenceCount}
+use Rattle.blocks.specs.Block.{part, write, valueWords, updateWords, valueList, updateList, current, padded, withUpdate, blockOf, zeroList}
+use Rattle.blocks.specs.Read.{readValue, readUpdate, readGroup}
+use Rattle.blocks.specs.Whole.{updateOnes, wholeLists}
+use Rattle.blocks.specs.Change.{merged, turnedList, turned, mergeDue, flipped}
+use Rattle.blocks.specs.Column.{listFor, loaded}
+use Rattle.blocks.specs.Fences.{fenceAt}
+use Rattle.index.specs.Memory.{limits, withinLimits, lent, blockAt, rowsIn}
+use Rattle.index.specs.Reading.{fenceFor, readIn, rowOf, valueOf}
+use Rattle.index.specs.Calls.{whole, withBlock, renewed, flippedIn, loadAfter, queryList, queryOutcome, valueOutcome, insertAfter, deleteAfter, updateAfter}
+use Rattle.history.specs.Cases.{Marked}
+
+-- THEOREM: document 01's marked cases, packing and index together
+pub marked : Marked
+unfolding
+    groupsOf clearFrom runOf addGroup packed canonical packOutcome onGroup turnedOver walkTo fenceCount part write valueWords updateWords
+    valueList updateList current padded withUpdate blockOf zeroList readValue readUpdate readGroup updateOnes wholeLists merged turnedList turned
+    mergeDue flipped listFor loaded fenceAt limits withinLimits lent blockAt rowsIn fenceFor readIn rowOf valueOf whole withBlock renewed flippedIn
+    loadAfter queryList queryOutcome valueOutcome insertAfter deleteAfter updateAfter
+marked = refl
