@@ -16,7 +16,11 @@ use crate::row::refused;
 use crate::row::value_of;
 use answers::Answer;
 
-// The state of a row, and the words opened to find it: at most d x (G + 2T + 1).
+// The state of a row, and the words opened to find it: at most d x (G + 2T + 1), in all d values, each from
+// its fence on.
+//
+// Refuses, the lowest number first: BAD_HEADER, SMALL, NO_ROW, and DAMAGED where a read fails or two values
+// have the row.
 pub fn value(words: &[u32], fences: &[Fence], header: Header, row: u32) -> Value
     ensures { λ r. ⌜ valuePaper r ≡ valueOutcome header (memoryOf (now (words .entry)) (now (fences .entry))) row ⌝ }
 {
@@ -29,7 +33,11 @@ pub fn value(words: &[u32], fences: &[Fence], header: Header, row: u32) -> Value
     }
 }
 
-// Writes the canonical list of V xor U of a value; answers the number of words.
+// Writes the canonical list of V xor U of a value; answers the number of words, at most M. Each word of both
+// lists is read twice, once for the check, and each word of the result is written once.
+//
+// Refuses: BAD_HEADER, SMALL, BAD_VALUE, DAMAGED where a list of the value is not whole, OUT_SMALL. Output past
+// the result stays, and on a refusal all of it does.
 pub fn query(words: &[u32], fences: &[Fence], out: &mut [u32], header: Header, value: u32) -> Answer
     ensures { λ r. ⌜ Gives (queryOutcome header (memoryOf (now (words .entry)) (now (fences .entry))) value (now (out .entry))) r (now (out .exit)) ⌝ }
 {

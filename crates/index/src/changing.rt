@@ -85,7 +85,10 @@ fn move_fenced(
     }
 }
 
-// Merges a value: V becomes V xor U, its fences are made anew and U becomes all zero.
+// Merges a value: V becomes V xor U, its fences are made anew and U becomes all zero. On a sound index this
+// changes no Query, Value state or Dump; on one whose lists are whole it mends fences and unused words.
+//
+// Refuses: BAD_HEADER, SMALL, BAD_VALUE, DAMAGED where a list of the value is not whole.
 pub fn merge(words: &mut [u32], fences: &mut [Fence], header: Header, value: u32) -> Changed
     ensures { λ r. ⌜ Leaves (mergeAfter header (memoryOf (now (words .entry)) (now (fences .entry))) value) r (now (words .exit)) (now (fences .exit)) ⌝ }
 {
@@ -101,7 +104,11 @@ pub fn merge(words: &mut [u32], fences: &mut [Fence], header: Header, value: u32
     }
 }
 
-// Adds a row of a value; answers the row.
+// Adds a row of a value; answers the row, and gives the header with one row more. It reads row n in all
+// values, and touches the words and fences of one.
+//
+// Refuses: BAD_HEADER, SMALL, BAD_VALUE, FULL, DAMAGED where a read of row n fails or finds a 1, or where a list
+// of the value is not whole.
 pub fn insert(words: &mut [u32], fences: &mut [Fence], header: Header, value: u32) -> Changed
     ensures { λ r. ⌜ Leaves (insertAfter header (memoryOf (now (words .entry)) (now (fences .entry))) value) r (now (words .exit)) (now (fences .exit)) ⌝ }
 {
@@ -120,7 +127,11 @@ pub fn insert(words: &mut [u32], fences: &mut [Fence], header: Header, value: u3
     }
 }
 
-// Deletes a row.
+// Deletes a row: its number is not used again. It reads the row in all values, and touches the words and
+// fences of one.
+//
+// Refuses: BAD_HEADER, SMALL, NO_ROW, DAMAGED where the row is damaged, GONE where it is deleted already, and
+// DAMAGED where a list of its value is not whole.
 pub fn delete(words: &mut [u32], fences: &mut [Fence], header: Header, row: u32) -> Changed
     ensures { λ r. ⌜ Leaves (deleteAfter header (memoryOf (now (words .entry)) (now (fences .entry))) row) r (now (words .exit)) (now (fences .exit)) ⌝ }
 {
@@ -141,7 +152,11 @@ pub fn delete(words: &mut [u32], fences: &mut [Fence], header: Header, row: u32)
     }
 }
 
-// Gives a row another value. To the value that it has, it is accepted and changes nothing.
+// Gives a row another value. To the value that it has, it is accepted and changes nothing. It reads the row in
+// all values, and touches the words and fences of two; both are checked before either is written.
+//
+// Refuses: BAD_HEADER, SMALL, BAD_VALUE, NO_ROW, DAMAGED where the row is damaged, GONE where it is deleted, and
+// DAMAGED where a list of the old or the new value is not whole.
 pub fn update(
     words: &mut [u32],
     fences: &mut [Fence],

@@ -150,7 +150,11 @@ fn dump_rows(words: &[u32], fences: &[Fence], out: &mut [u8], header: Header, pl
     give_rows(&rows, out, header.issued)
 }
 
-// Writes for each row below n the byte of its value, or 255 for a deleted row; answers n.
+// Writes for each row below n the byte of its value, or 255 for a deleted row; answers n. It takes 126,976
+// bytes of stack.
+//
+// Refuses: BAD_HEADER, SMALL, DAMAGED where Value would find a row damaged, OUT_SMALL. Output past the result
+// stays, and on a refusal all of it does.
 pub fn dump(words: &[u32], fences: &[Fence], out: &mut [u8], header: Header) -> Answer
     ensures { λ r. ⌜ Gives (dumpOutcome header (memoryOf (now (words .entry)) (now (fences .entry))) (now (out .entry))) r (now (out .exit)) ⌝ }
 {

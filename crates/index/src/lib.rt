@@ -14,3 +14,13 @@ pub mod header;
 pub mod loading;
 pub mod reading;
 pub mod row;
+
+pub use answering::query;
+pub use answering::value;
+pub use auditing::audit;
+pub use changing::delete;
+pub use changing::insert;
+pub use changing::merge;
+pub use changing::update;
+pub use dumping::dump;
+pub use loading::load;

@@ -117,7 +117,10 @@ fn load_values(words: &mut [u32], fences: &mut [Fence], column: &[u8], header: H
 }
 
 // Loads a column of bytes, one a row: a value below d, or 255 for a deleted row. It writes all lists and
-// fences with empty updates, and gives the header.
+// fences with empty updates, and gives the header: one pass over the column for the refusals and one for
+// each value. What is lent beyond d x B words and d x F fences stays.
+//
+// Refuses, with a header of zeros: BAD_HEADER by R, d, T and G alone, SMALL, BAD_VALUE, FULL.
 pub fn load(
     words: &mut [u32],
     fences: &mut [Fence],
