@@ -1,0 +1,20 @@
+-- The cases hold, all of them by one computation. Assumes nothing.
+use mathlib.Core.Path.{refl}
+use Rattle.words.specs.Rows.{clearFrom}
+use Rattle.words.specs.Words.{runOf, addGroup, canonical}
+use Rattle.lists.specs.Combine.{onGroup}
+use Rattle.blocks.specs.Shape.{fenceCount}
+use Rattle.blocks.specs.Block.{part, write, valueWords, updateWords, valueList, updateList, current, padded, blockOf, zeroList}
+use Rattle.blocks.specs.Column.{listFor, loaded}
+use Rattle.blocks.specs.Whole.{updateOnes, wholeLists}
+use Rattle.index.specs.Memory.{limits, withinLimits, lent, blockAt, rowsIn}
+use Rattle.index.specs.Calls.{whole, withBlock, renewed, loadAfter, queryList, queryOutcome}
+use Rattle.print.specs.Frame.{isDigit, digitValue, lineIn, isFrame}
+use Rattle.print.specs.Text.{valueLine, refusalLine}
+use Rattle.print.specs.Printed.{cleared, answerLine, queryLine, columnLines, frameLines, printed}
+use Rattle.print.specs.Cases.{cases, Printing}
+
+-- THEOREM: document 01's example of the printing program, and each refusal
+pub printing : Printing
+unfolding cases printed frameLines lineIn isFrame isDigit digitValue columnLines cleared loadAfter limits withinLimits lent withBlock renewed blockAt rowsIn part write valueWords updateWords valueList updateList current padded blockOf zeroList listFor loaded fenceCount updateOnes wholeLists whole queryList queryOutcome queryLine answerLine valueLine refusalLine clearFrom runOf addGroup canonical onGroup
+printing = refl

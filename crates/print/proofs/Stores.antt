@@ -1,0 +1,68 @@
+-- Laws of texts that are written one behind the other. Assumes nothing.
+use mathlib.Core.Path.{_≡_, refl, _∙_, ap, sym}
+use mathlib.Core.List.{List, [], _∷_, _++_}
+use Prim.Native.Nat.{ℕ, zero, suc, _+_, _-_, _*_, _/_, _%_, _^_, _<_, _≤_}
+use native.Mathlib.Nat.{add-zero, zero-add}
+use native.Mathlib.Numerals.{add-one}
+use native.Mathlib.Omega.{arith}
+use lib.ListN.{length, getD, set, drop, length-append}
+use lib.Seq.{sets, sets-eq, drop-cons}
+use Rattle.print.specs.Text.{hexDigit, hexDigits, hexWords, newline, valueLine, refusalLine}
+
+-- a text and another behind it
+pub sets-append : (out : List ℕ) (at : ℕ) (text more : List ℕ) → sets out at (text ++ more) ≡ sets (sets out at text) (at + length text) more
+sets-append out at [] more = rw add-zero refl
+sets-append out at (byte ∷ text) more =
+    sets-append (set out at byte) (suc at) text more
+    ∙ ap (λ (place : ℕ). sets (sets (set out at byte) (suc at) text) place more) (omega arith)
+
+-- a text over the front
+pub sets-over : (out text : List ℕ) → length text ≤ length out → sets out 0 text ≡ text ++ drop (length text) out
+sets-over out text h = sets-eq text out 0 (omega arith) ∙ rw zero-add refl
+
+pub length-digits : (count number : ℕ) → length (hexDigits count number) ≡ count
+length-digits zero number = refl
+length-digits (suc count) number = ap suc (length-digits count number)
+
+-- one digit more
+pub digit-put : (out : List ℕ) (next left number : ℕ) → 0 < left
+    → sets (set out next (hexDigit (number / 2 ^ (4 * (left - 1)) % 16))) (next + 1) (hexDigits (left - 1) number) ≡ sets out next (hexDigits left number)
+digit-put out next zero number h = absurd (omega arith)
+digit-put out next (suc left) number h =
+    let before : suc left - 1 ≡ left = omega arith in rw (before, add-one) refl
+
+pub length-words : (list : List ℕ) → length (hexWords list) ≡ 8 * length list
+length-words [] = refl
+length-words (word ∷ list) =
+    omega (arith, length-append (hexDigits 8 word) (hexWords list), length-digits 8 word, length-words list)
+
+-- one word more
+pub word-put : (out list : List ℕ) (next i : ℕ) → i < length list
+    → sets (sets out next (hexDigits 8 (getD list i 0))) (next + 8) (hexWords (drop (i + 1) list)) ≡ sets out next (hexWords (drop i list))
+word-put out list next i h =
+    rw (add-one, drop-cons list i 0 h) (sym (sets-append out next (hexDigits 8 (getD list i 0)) (hexWords (drop (suc i) list))))
+
+-- ---- lines
+
+-- two texts and a newline, each written behind the one before
+module _ (out : List ℕ) (at : ℕ) (first second : List ℕ) (out₁ out₂ out₃ : List ℕ) (next₁ next₂ next₃ : ℕ) where
+  pub line-put : next₁ ≡ at + length first → out₁ ≡ sets out at first
+      → next₂ ≡ next₁ + length second → out₂ ≡ sets out₁ next₁ second
+      → next₃ ≡ next₂ + 1 → out₃ ≡ sets out₂ next₂ newline
+      → (next₃ ≡ at + length (first ++ (second ++ newline))) × (out₃ ≡ sets out at (first ++ (second ++ newline)))
+  line-put e₁ f₁ e₂ f₂ e₃ f₃ = (
+    omega (arith, length-append first (second ++ newline), length-append second newline),
+    f₃
+        ∙ rw (f₂, f₁, e₂, e₁, sets-append out at first (second ++ newline), sets-append (sets out at first) (at + length first) second newline) refl,
+  )
+
+pub length-line : (first second : List ℕ) → length (first ++ (second ++ newline)) ≡ length first + length second + 1
+length-line first second = omega (arith, length-append first (second ++ newline), length-append second newline)
+
+pub length-value : (value : ℕ) (list : List ℕ) → length (valueLine value list) ≡ 8 * length list + 3
+unfolding valueLine
+length-value value list = omega (arith, length-line (hexDigits 2 value) (hexWords list), length-words list)
+
+pub length-refusal : (number : ℕ) → length (refusalLine number) ≡ 5
+unfolding refusalLine
+length-refusal number = refl

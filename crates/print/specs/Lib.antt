@@ -1,0 +1,4 @@
+pub mod Cases
+pub mod Frame
+pub mod Text
+pub mod Printed
