@@ -1,5 +1,5 @@
 #!/usr/bin/env bash
-# For a console over every call: builds the second program, runs its own tests (document 01's numbers, and that each wrong console is
+# Builds the second program, runs its own tests (document 01's numbers, and that each wrong console is
 # noticed), then compares it with target/bin/desk and target/bin/print: two fixed seeds and a fresh one,
 # which is printed. Options are given to each comparison, as `--self` or `--jobs 1`.
 set -eu

@@ -44,24 +44,26 @@ class Call:
         self.operands = operands.joined(steps)
         count = len(self.slice_parameters)
         self.slices = [self.state.slices[step.value.refers_to] for step in steps[:count]]
+        self.fronts = [step.value.front for step in steps[:count]]
         self.values = [step.value for step in steps[count:]]
         if len({each.name for each in self.slices}) < count:
             raise Refused("a call that is passed one slice twice")
         self.shape, self.changed = "", []       # of a changed slice also the name of its list behind the call
-        for (_, type_), own in zip(self.slice_parameters, self.slices):
-            self.shape += "m" if type_.mutable else "v" if own.type.mutable else "s"
+        for (_, type_), own, front in zip(self.slice_parameters, self.slices, self.fronts):
+            self.shape += "f" if front else "m" if type_.mutable else "v" if own.type.mutable else "s"
             if type_.mutable:
-                self.changed.append((own, f"{own.name}{self.number}"))
+                self.changed.append((own, f"{own.name}{self.number}", front))
         self.shape += "" if self.rest else "+"
         self.walk.shapes.add(self.shape)
 
     def read_contract(self):
         """The contract's clauses at the arguments: a fact to show before the call, and one that holds behind it."""
         callee = self.callee
-        lists = {name: own.list for (name, _), own in zip(self.slice_parameters, self.slices)}
+        lists = {name: f"(front {enclosed(front)} {enclosed(own.list)})" if front else own.list
+                 for (name, _), own, front in zip(self.slice_parameters, self.slices, self.fronts)}
         plain = {name: value.term for (name, _), value in zip(self.plain_parameters, self.values)}
         changed = [name for name, type_ in self.slice_parameters if type_.mutable]
-        exits = {name: new for name, (_, new) in zip(changed, self.changed)}
+        exits = {name: new for name, (_, new, _) in zip(changed, self.changed)}
         bound = (callee.result_name, self.answer) if callee.result_name != "_" else None
         self.requires = callee.requires and clause_at(self.clause(callee.requires), lists, plain)
         self.ensures = "Unit {0}"
@@ -91,17 +93,33 @@ class Call:
         deltas = "".join(f" δ{subscript(index)}" for index in range(len(self.slices)))
         terms, machine, owned = self.plain_arguments()
         at = f"λ κs{deltas}."
+        self.show_fronts()
         write(f"-- {self.callee.name if self.callee.crate == self.walk.sources.crate else self.callee.path}")
         write(self.head())
         write(f"(λ κs. {terms}) (λ κs. {machine}) (λ κs. {owned}) ({at} tt) ({at} {needed})")
         write(f"(λ {self.answer}{self.lists()}. {self.ensures}) (λ κs{deltas} {self.answer} ws. {ensured}) "
               f"({at} {self.operands})")
-        for own, new in self.changed:
-            own.list, own.same_length = new, f"n-{new}"
+        for own, new, front in self.changed:
+            if front:
+                before = f"{enclosed(front)} {enclosed(own.list)}"
+                own.same_length = (f"(front-length {before} {enclosed(own.length)} {enclosed(own.same_length)} "
+                                   f"{self.fit[own.name]} {new} n-{new})")
+                own.list = f"(refronted {before} {new})"
+            else:
+                own.list, own.same_length = new, f"n-{new}"
         if self.result.kind == "enum" and is_matched(self.local, self.rest, self.behind):
             self.write_variants()
         else:
             self.write_answer()
+
+    def show_fronts(self):
+        """That each part which is lent is no longer than its slice."""
+        self.fit = {}       # {slice: proof}
+        for own, front in zip(self.slices, self.fronts):
+            if front:
+                key = f"front.{self.walk.number('front')}"
+                goal = f"{front} ≤ {own.length}"
+                self.fit[own.name] = self.walk.author.proves(key, goal, self.state.scope)
 
     def head(self):
         """The combinator of the shape, with the callee's contract and the slices."""
@@ -109,9 +127,10 @@ class Call:
         slots = enclosed(list_of(f"plain (λ _. {type_.row})" for _, type_ in self.plain_parameters))
         text = f"{combinators.name_of(self.shape)} ! fm {rows} {slots} {tuple_of(['yes'] * len(self.values))}"
         text += f" ({self.tag}-F.clauses 𝓤 H A mem run) known-{self.tag}"
-        for each in self.slices:
+        for each, front in zip(self.slices, self.fronts):
             place = f"{each.block} {each.offset} {each.ghost}"
             text += f" {place} {enclosed(each.list)} {enclosed(each.length)} {enclosed(each.same_length)}"
+            text += f" {enclosed(front)} {self.fit[each.name]}" if front else ""
         return text
 
     def plain_arguments(self):
@@ -125,10 +144,10 @@ class Call:
         return terms, machine, f"owns-make 𝓤 H A {rows} (Ises {rows}) {makes} {terms} {machine} {relations}"
 
     def lists(self):
-        return "".join(f" {new}" for _, new in self.changed)
+        return "".join(f" {new}" for _, new, _ in self.changed)
 
     def lengths(self):
-        return "".join(f" n-{new}" for _, new in self.changed)
+        return "".join(f" n-{new}" for _, new, _ in self.changed)
 
     # ---- behind it
     def write_answer(self):
@@ -171,8 +190,9 @@ class Call:
     def facts(self, answers, term):
         """The variables that the text behind the call binds."""
         number, facts = self.number, [(f"u{self.number}", "Val"), *answers]
-        for own, new in self.changed:
-            facts += [(new, f"List {own.type.element.denotation}"), (f"n-{new}", f"length {new} ≡ {own.length}")]
+        for own, new, front in self.changed:
+            length = front or own.length
+            facts += [(new, f"List {own.type.element.denotation}"), (f"n-{new}", f"length {new} ≡ {length}")]
         facts.append((f"e{number}", replaced(self.ensures, {self.answer: term})))
         return facts + [(f"is{number}", f"Is {self.result.row} {term} (u{number} ∷ [])")]
 

@@ -71,11 +71,12 @@ class Check:
             self.differences.append(f"{path}: {refusal}")
 
     def compare_library(self):
-        for module, text in library.library_texts(self.sources.crate, self.shapes or set()).items():
+        found = library.library_texts(self.sources.crate, self.shapes or set())
+        for module, text in found.items():
             if module != "Calls" or self.shapes is not None:
                 self.compare(library.library_file(self.sources, module), text)
         path = library.library_file(self.sources, "Lib")
-        self.compare(path, library.listing(texts.content(path) or ""))
+        self.compare(path, library.listing(texts.content(path) or "", found))
 
     def compare(self, path, text):
         there = texts.content(path)

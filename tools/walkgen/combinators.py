@@ -4,16 +4,20 @@ A shape is a word with a letter for each slice of the callee, in order; plain pa
     s   the callee takes a `&[R]`, and the caller's own is a `&[R]`
     v   the callee takes a `&[R]`, and the caller's own is a `&mut [R]`
     m   the callee takes a `&mut [R]`, and the caller's own is one
+    f   the callee takes a `&mut [R]`, and gets the first records of the caller's own, `&mut own[..m]`
 A `+` at the end is a call that is the last statement of an arm or of a turn.
 """
 from script import Context
 from terms import part, subscript, tuple_of
 
-LETTERS = {"s": "shr", "v": "view", "m": "mut"}
+LETTERS = {"s": "shr", "v": "view", "m": "mut", "f": "front"}
 OPEN = (
     "module _ {M : Type 1} {𝓤 : URA M} {H : Heap 𝓤} {A : Atoms 𝓤} {K : Type 0} {W : Given 𝓤 H A} {Γ : List (Item 𝓤)} "
     "{E : Env 𝓤 H} {C : Calls 𝓤 H} {f : Name} {xs : List Operand} {Λ : Loops 𝓤 H} {p : Post 𝓤 H} {d : Place} "
     "{rest : Body} where\n")
+DOC = "--     front      as mut, of the first records of the slice; the others stand behind the callee's last list\n"
+FRONT = (
+    "use Rattle·@CRATE@·proofs.proofs.Front.{front, refronted, front-size, LentFront, lend-front, back-front}\n")
 
 
 def name_of(shape):
@@ -29,6 +33,10 @@ def file_text(template, shapes):
     inner = [shape for shape in shapes if shape not in last]
     text = template.replace("@SETTLES@", ", settles" if last else "")
     text = text.replace("@LAST@", ", calls-at-last" if last else "")
+    has_fronts = any("f" in shape for shape in shapes)
+    text = text.replace("@LE@", ", _≤_" if has_fronts else "")
+    text = text.replace("@DOC@", DOC if has_fronts else "")
+    text = text.replace("@FRONT@", FRONT if has_fronts else "")
     text += "\n".join(signature_text(taken) for taken in dict.fromkeys(map(taken_by, shapes)))
     text += "\n" + OPEN + "\n".join(Combinator(shape).text() for shape in inner)
     if last:
@@ -39,7 +47,7 @@ def file_text(template, shapes):
 # ---- the callee's signature
 def taken_by(shape):
     """How the callee takes the slices, whatever the caller's own are: `s` or `m` for each."""
-    return shape.rstrip("+").replace("v", "s")
+    return shape.rstrip("+").replace("v", "s").replace("f", "m")
 
 
 def signature_name(taken):
@@ -63,7 +71,8 @@ class Passed:
 
     def __init__(self, index, letter):
         self.index, self.mark = index, subscript(index)
-        self.is_shared, self.is_changed = letter == "s", letter == "m"
+        self.is_shared, self.is_front = letter == "s", letter == "f"
+        self.is_changed = letter == "m" or self.is_front
         # labels of the context
         self.token, self.slice = f"token {index}", f"slice {index}"
         self.kept, self.final = f"kept {index}", f"final {index}"
@@ -72,6 +81,10 @@ class Passed:
         self.share = f"q{self.mark}" if self.is_shared else "fullShare"
         self.ghost = f"γ{self.mark}" if self.is_shared else f"δ{self.mark}"
         self.value = f"sliceVal (b{self.mark}, o{self.mark}) n{self.mark}"
+        # what the callee gets of it: its machine value, its list and its length
+        self.lent_size = f"m{self.mark}" if self.is_front else f"n{self.mark}"
+        self.lent_value = f"sliceVal (b{self.mark}, o{self.mark}) {self.lent_size}"
+        self.lent_list = f"(front m{self.mark} ys{self.mark})" if self.is_front else f"ys{self.mark}"
         self.lifetime_variable = part("κs", index)
         self.last_list = part("ws", index)
 
@@ -79,24 +92,32 @@ class Passed:
         """The text with the index behind each `#`."""
         return text.replace("#", self.mark)
 
-    def owned(self, kind, lifetime, reference):
-        return f"{kind} (named 0) {lifetime} R{self.mark} .own ({reference}) ({self.value} ∷ [])"
+    @property
+    def lent(self):
+        """The reference that the callee gets."""
+        return self.marked(f"ref b# o# δ# {self.lent_list}")
+
+    def owned(self, kind, lifetime, reference, value=None):
+        return f"{kind} (named 0) {lifetime} R{self.mark} .own ({reference}) ({value or self.value} ∷ [])"
 
     def of_caller(self, elements):
         """The caller's slice, with its token."""
         kind = "ShrSlice" if self.is_shared else "MutSlice"
-        owned = self.owned(kind, self.marked("κ#"), self.marked(f"ref b# o# γ# {elements}#"))
+        elements = "(refronted m# ys# zs#)" if self.is_front and elements == "zs" else f"{elements}#"
+        owned = self.owned(kind, self.marked("κ#"), self.marked(f"ref b# o# γ# {elements}"))
         return self.marked(f"‵ (flft κ# q#) ∷ ‵ ({owned}) ∷ ")
 
     def of_callee(self):
         """The slice that the callee gets."""
         kind = "MutSlice" if self.is_changed else "ShrSlice"
-        return self.owned(kind, f"({self.lifetime_variable})", self.marked("ref b# o# δ# ys#"))
+        return self.owned(kind, f"({self.lifetime_variable})", self.lent, self.lent_value)
 
     def kept_back(self):
         """What the caller keeps while the callee has the slice."""
         if self.is_shared:
             return f"‵ ({self.owned('ShrSlice', self.marked('κ#'), self.marked('ref b# o# γ# ys#'))}) ∷ "
+        if self.is_front:
+            return self.marked(f"‵ (LentFront R# κ# ({self.lifetime_variable}) q# γ# b# o# δ# m# ys#) ∷ ")
         if self.is_changed:
             return self.marked(f"‵ (LentAgain R# κ# ({self.lifetime_variable}) q# γ# b# o# δ# ys#) ∷ ")
         return self.marked(f"‵ (Viewed R# κ# ({self.lifetime_variable}) q# γ# b# o# ys#) ∷ ")
@@ -105,10 +126,14 @@ class Passed:
         """The step that lends it."""
         if self.is_shared:
             return self.marked(f"lend-shr t R# (ref b# o# γ# ys#) ({self.value} ∷ []) (")
+        if self.is_front:
+            return self.marked("lend-front t tt R# b# o# γ# ys# n# en# m# le# (λ ν# δ# room#.")
         return self.marked(f"lend-{'mut' if self.is_changed else 'view'} t tt R# b# o# γ# ys# n# en# (λ ν# δ# room#.")
 
     def take_back(self):
         """The step that has it back, from the callee's token and what was kept."""
+        if self.is_front:
+            return self.marked(f"back-front t tt R# b# o# γ# ys# n# en# m# ν# δ# room# ({self.last_list}) l# (")
         if self.is_changed:
             return self.marked(f"back-mut t tt R# b# o# γ# ys# n# en# ν# δ# room# ({self.last_list}) l# (")
         return self.marked("back-view t tt R# b# o# γ# ys# n# en# ν# room# (")
@@ -134,8 +159,8 @@ class Combinator:
         self.here = " ".join([self.lifetimes, *(each.ghost for each in self.slices)])
         # the arguments: the slices, and the plain ones behind them
         plain, plain_values = ("a κs", "vss κs") if self.slices else ("(a κs)", "(vss κs)")
-        self.arguments = tuple_of([each.marked("ref b# o# δ# ys#") for each in self.slices], plain)
-        machine_values = tuple_of([f"{each.value} ∷ []" for each in self.slices], plain_values)
+        self.arguments = tuple_of([each.lent for each in self.slices], plain)
+        machine_values = tuple_of([f"{each.lent_value} ∷ []" for each in self.slices], plain_values)
         shares = tuple_of([each.share for each in self.slices])
         self.ghost = f"((κs, {shares}, tt, {self.arguments}, {machine_values}), g {self.at})"
         self.promise = "ψ r" + "".join(f" ({each.last_list})" for each in self.changed)
@@ -148,14 +173,15 @@ class Combinator:
         slices = [each.of_caller(changed_to if each.is_changed else "ys") for each in self.slices]
         return f"({''.join(slices)}Γ)" if self.slices else "Γ"
 
-    def for_changed(self, text):
-        return "".join(each.marked(text) for each in self.changed)
+    def for_changed(self, text, of_front=None):
+        return "".join(each.marked(of_front if of_front and each.is_front else text) for each in self.changed)
 
     def statement(self):
         end, arguments, binder, binders, at = self.signature, self.arguments, self.binder, self.binders, self.at
         own = "{κ# : Lft} {q# : Share} (b# o# : ℕ) (γ# : GName) (ys# : List (R# .Denot)) (n# : ℕ) → length ys# ≡ n#"
+        of_front = f"{own} → (m# : ℕ) → m# ≤ n#"
         kept = "‵ ftrue ∷ " * (self.count - 1) + "".join(each.kept_back() for each in self.slices)
-        values = "".join(f"{each.value} ∷ " for each in self.slices) + "flat (typesAt ss κs) (vss κs)"
+        values = "".join(f"{each.lent_value} ∷ " for each in self.slices) + "flat (typesAt ss κs) (vss κs)"
         if self.is_last:
             lands, code = "settles E d u p", "(call f xs d)"
         else:
@@ -163,7 +189,7 @@ class Combinator:
         return [
             f"  pub {self.name} : K → FmC 𝓤 H (W .laws) C → ({self.rows}Q : RattleType) "
             f"(ss : List (Slot {self.count})) (ks : Kepts ss) (c : Clauses 𝓤 {end}) → Triple 𝓤 (C f) ({self.contract})",
-            *(f"      → {each.marked(own)}" for each in self.slices),
+            *(f"      → {each.marked(of_front if each.is_front else own)}" for each in self.slices),
             f"      → (a : {binder}→ Denots (typesAt ss κs)) (vss : {binder}→ Valss (typesAt ss κs)) "
             f"→ ({binder}→ ent 𝓤 (emp 𝓤) (sem 𝓤 H A (owns (typesAt ss κs) (a κs) (vss κs))))",
             f"      → (g : {binders}→ c κs {arguments} .ghost) "
@@ -174,7 +200,8 @@ class Combinator:
             f"(fact 𝓤 ({self.promise})))",
             f"      → ({binders}→ Opds K W (raw ({self.contract} .pre {self.ghost}) ∷ {kept}Γ) E xs ({values}))",
             f"      → ((u : Val) (r : Q .Denot) {self.for_changed('(zs# : List (R# .Denot)) ')}"
-            f"→ {self.for_changed('length zs# ≡ n# → ')}ψ r{self.for_changed(' zs#')} → Is Q r (u ∷ []) "
+            f"→ {self.for_changed('length zs# ≡ n# → ', 'length zs# ≡ m# → ')}ψ r{self.for_changed(' zs#')} "
+            f"→ Is Q r (u ∷ []) "
             f"→ Seq K W {self.context('zs')} ({lands}))",
             f"      → Seq K W {self.context('ys')} (runs C Λ E {code} p)",
         ]
@@ -182,7 +209,8 @@ class Combinator:
     # ---- the proof
     def proof(self):
         """The slices are lent, the callee's contract is used, and the slices are had back."""
-        own = "".join(each.marked("{κ#} {q#} b# o# γ# ys# n# en# ") for each in self.slices)
+        own = "".join(each.marked("{κ#} {q#} b# o# γ# ys# n# en# " + ("m# le# " if each.is_front else ""))
+                      for each in self.slices)
         context = Context([label for each in self.slices for label in (each.token, each.slice)], "t")
         lines = [*self.lending(context), *self.calling(context), self.answer(context), self.taking_back(context)]
         open_brackets = sum(line.count("(") - line.count(")") for line in lines)
@@ -273,7 +301,8 @@ class Combinator:
             context.replace(1)
         line += context.bring(*(label for each in self.slices for label in (each.token, each.slice)))
         lists = "".join(f" ({each.last_list})" for each in self.changed)
-        return f"{line}k u r{lists}{self.for_changed(' (l# ∙ en#)')} e is"
+        lengths = self.for_changed(" (l# ∙ en#)", " (l# ∙ front-size m# ys# n# en# le#)")
+        return f"{line}k u r{lists}{lengths} e is"
 
     # ---- what the proof names
     def definitions(self):

@@ -11,7 +11,7 @@ from types_in_use import TypesInUse
 from walk import Walk
 
 COPIED = ("Bytes", "Flow", "Lend", "Local")
-MODULES = ("Bytes", "Calls", "Flow", "Lend", "Local")
+FRONT = "Front"                     # copied too, where a call lends the first records of a slice
 ALWAYS = {"s", "m", "v", "vm"}      # the shapes of a call that every crate gets
 THIN = ("at", "put")                # the kinds of thin functions: a read, a write
 
@@ -88,7 +88,8 @@ def write_proof(sources, function, text):
 # ---- the library
 def library_texts(crate, shapes):
     """{module: text} of the library, with the combinators for the shapes of the crate's calls."""
-    found = {name: texts.kept(f"{name}.antt.txt") for name in COPIED}
+    has_fronts = any("f" in shape for shape in shapes)
+    found = {name: texts.kept(f"{name}.antt.txt") for name in COPIED + ((FRONT,) if has_fronts else ())}
     found["Calls"] = combinators.file_text(texts.kept("Calls.antt.txt"), ALWAYS | shapes)
     return {name: text.replace("@CRATE@", crate) for name, text in found.items()}
 
@@ -97,10 +98,10 @@ def library_file(sources, module):
     return in_proofs(sources, f"{module}.antt")
 
 
-def listing(existing):
+def listing(existing, modules):
     """The text of proofs/Lib.antt with the library's modules: in order, if it has nothing but modules."""
     lines = [line for line in existing.split("\n") if line.strip()]
-    missing = [line for line in (f"pub mod {name}" for name in MODULES) if line not in lines]
+    missing = [line for line in (f"pub mod {name}" for name in sorted(modules)) if line not in lines]
     if not missing:
         return existing
     lines += missing
@@ -118,4 +119,4 @@ def write_library(sources, shapes):
     for module, text in found.items():
         texts.write(library_file(sources, module), text)
     path = library_file(sources, "Lib")
-    texts.write(path, listing(texts.content(path) or ""))
+    texts.write(path, listing(texts.content(path) or "", found))

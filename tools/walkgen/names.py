@@ -17,6 +17,7 @@ OWN_FILES = [
     "assigns-again, lands-again, skips-again, turn-returns, frees-all, below-word, next-le, next-nearer, empties, "
     "big-lit, widen-8-16, widen-8-32, widen-8-64, widen-16-32, widen-16-64, widen-32-64}",
     "Local.{repeats, lend-array, back-array}",
+    "Front.{front, refronted, front-size, front-length}",
 ]
 
 # what the text of a walk binds or declares

@@ -83,6 +83,8 @@ def loaded(walk, place, state, ahead):
 def field(walk, value, index, state):
     """A field of a struct, or the length of a slice."""
     if value.type.kind == "slice":
+        if value.front:
+            raise Refused("a part of a slice that is kept: lend it to a call at once")
         if index == 1:
             return Value(Type("num", "usize"), state.slices[value.refers_to].length, f"({value.room})")
         return Value(Type("other", "pointer"))
@@ -173,7 +175,7 @@ def aggregate(walk, tree, local, state):
     values = [step.value for step in parts]
     type_ = walk.local_types[local]
     if type_.kind == "slice":
-        return Step(text, Value(type_, refers_to=values[0].refers_to, room=values[0].room))
+        return Step(text, reference_of(*values, type_, state))
     if type_.kind == "struct":
         fields = zip(walk.types.fields(type_.name), values)
         term = f"record {{ {'; '.join(f'{name} = {value.term}' for (name, _), value in fields)} }}"
@@ -184,6 +186,16 @@ def aggregate(walk, tree, local, state):
         return built(walk, text, type_, " ".join([name, *(enclosed(value.term) for value in values)]), values, variant)
     raise Refused(
         "an array or a tuple that is written out, as `[1, 2]`: begin with `[0; 2]`, and let a covered function fill it")
+
+
+def reference_of(pointer, count, type_, state):
+    """A reference to a slice, or to its first records, as many as count says."""
+    name = pointer.refers_to
+    if count.term == state.slices[name].length:
+        return Value(type_, refers_to=name, room=pointer.room)
+    if not type_.mutable:
+        raise Refused("a part of a slice that is lent as `&`: lend it as `&mut`")
+    return Value(type_, refers_to=name, room=count.proof, front=count.term)
 
 
 def built(walk, text, type_, term, fields, variant=None):

@@ -7,13 +7,14 @@ class Value:
 
     term: the value in the logic. proof: of a number, that it fits its width; of a declared type's value, that it is
     what the type says. fields, variant: of a struct or an enum that was built here or matched on. refers_to: of a
-    reference, the name of the slice, with room, the proof that its length is a u64. tag_of: of an enum's tag, the
-    enum.
+    reference, the name of the slice, with room, the proof that its length is a u64; front: how many of the slice's
+    first records it refers to, where these are not all. tag_of: of an enum's tag, the enum.
     """
 
-    def __init__(self, type_, term=None, proof=None, fields=None, variant=None, refers_to=None, room=None, tag_of=None):
+    def __init__(self, type_, term=None, proof=None, fields=None, variant=None, refers_to=None, room=None, front=None,
+                 tag_of=None):
         self.type, self.term, self.proof = type_, term, proof
-        self.fields, self.variant, self.tag_of = fields, variant, tag_of
+        self.fields, self.variant, self.front, self.tag_of = fields, variant, front, tag_of
         self.refers_to, self.room = refers_to, room or refers_to and f"room-{refers_to} .0"
 
     @property

@@ -1,0 +1,152 @@
+// The commands that need no fence records.
+use crate::columns::Counted;
+use crate::columns::digits_in;
+use crate::columns::words_in;
+use crate::input::Waiting;
+use crate::input::line_of;
+use crate::lent::Lent;
+use crate::lent::ROOM;
+use crate::lent::set_header;
+use crate::lent::set_lent;
+use crate::lent::set_room;
+use crate::orders::Order;
+use crate::say::say_help;
+use crate::say::say_list;
+use crate::say::say_text;
+use crate::say::say_unpacked;
+use crate::say::say_words;
+use crate::verbs::Verb;
+use words::packing::pack;
+use words::unpacking::unpack;
+
+// The longest line.
+const LINE: usize = 600000;
+
+// `poke I WORD`.
+fn poke(words: &mut [u32], place: usize, word: u32) {
+    if words.len() <= place {
+        say_text(b"? range");
+        return;
+    }
+    words[place] = word;
+    say_text(b"0");
+}
+
+// `peek I K`.
+fn peek(words: &[u32], place: usize, count: usize) {
+    if words.len() < place {
+        say_text(b"? range");
+        return;
+    }
+    if words.len() - place < count {
+        say_text(b"? range");
+        return;
+    }
+    say_words(&words[place..], count);
+}
+
+// Packs the first `count` rows into the first `room` words of a list.
+fn pack_rows(rows: &[u8], list: &mut [u32], count: usize, room: usize) {
+    if rows.len() < count {
+        say_text(b"? range");
+        return;
+    }
+    if list.len() < room {
+        say_text(b"? range");
+        return;
+    }
+    let answer = pack(&rows[..count], &mut list[..room]);
+    say_list(list, answer);
+}
+
+// `pack DIGITS`.
+fn pack_line(line: &[u8], at: usize, room: usize) {
+    let mut rows = [0u8; LINE];
+    let Counted::Count(count) = digits_in(line, at, &mut rows) else {
+        say_text(b"? line");
+        return;
+    };
+    let mut list = [0u32; ROOM];
+    pack_rows(&rows, &mut list, count, room);
+}
+
+// Unpacks the first `count` words of a list into the first `room` bytes.
+fn unpack_words(list: &[u32], rows: &mut [u8], count: usize, length: usize, room: usize) {
+    if list.len() < count {
+        say_text(b"? range");
+        return;
+    }
+    if rows.len() < room {
+        say_text(b"? range");
+        return;
+    }
+    let answer = unpack(&list[..count], length, &mut rows[..room]);
+    say_unpacked(rows, answer);
+}
+
+// `unpack L WORD ..`.
+fn unpack_line(line: &[u8], at: usize, length: usize, room: usize) {
+    let mut list = [0u32; ROOM];
+    let Counted::Count(count) = words_in(line, at, &mut list) else {
+        say_text(b"? line");
+        return;
+    };
+    let mut rows = [0u8; ROOM];
+    unpack_words(&list, &mut rows, count, length, room);
+}
+
+// The commands that set what is lent.
+fn set(lent: Lent, order: Order) -> Lent {
+    let verb = order.verb;
+    match verb {
+        Verb::Output => set_room(lent, order.first as usize),
+        Verb::Lend => set_lent(lent, order.first as usize, order.second as usize),
+        Verb::Header => set_header(lent, order),
+        Verb::Help => {
+            say_help();
+            lent
+        }
+        _ => {
+            say_text(b"? line");
+            lent
+        }
+    }
+}
+
+// The commands that look into the words, pack or unpack, of a line.
+fn obey(words: &mut [u32], line: &[u8], lent: Lent, order: Order) -> Lent {
+    let verb = order.verb;
+    match verb {
+        Verb::Poke => {
+            poke(words, order.first as usize, order.second);
+            lent
+        }
+        Verb::Peek => {
+            peek(words, order.first as usize, order.second as usize);
+            lent
+        }
+        Verb::Pack => {
+            pack_line(line, order.rest, lent.room);
+            lent
+        }
+        Verb::Unpack => {
+            unpack_line(line, order.rest, order.first as usize, lent.room);
+            lent
+        }
+        _ => set(lent, order),
+    }
+}
+
+// The commands that need no fence records, of the line that was found.
+pub fn obey_other(
+    words: &mut [u32],
+    input: &[u8],
+    waiting: Waiting,
+    lent: Lent,
+    order: Order,
+) -> Lent {
+    let line = line_of(input, waiting);
+    let from = line.from;
+    let to = line.to;
+    obey(words, &input[from..to], lent, order)
+}
