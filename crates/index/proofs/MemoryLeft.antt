@@ -1,14 +1,14 @@
 -- What a merge, a flip and a move make of the memory of an index: the words and the fences that the code leaves. Assumes nothing.
 use mathlib.Core.Path.{_≡_, refl, sym, ap, ap₂, _∙_}
-use mathlib.Core.Bool.{Bool, true, false, cond, _&&_}
+use mathlib.Core.Bool.{Bool, true, false, cond}
 use mathlib.Core.List.{List}
 use Prim.Native.Nat.{ℕ, _*_, _<_}
 use lib.ListN.{length}
 use Rattle.blocks.specs.Shape.{fenceCount}
 use Rattle.blocks.specs.Block.{write, valueList}
 use Rattle.blocks.specs.Change.{mergeDue}
-use Rattle.index.specs.Alter.{Suits, blockIn, listIn, isWhole, mergeWords, flipWords, moveWords}
-use Rattle.index.specs.Alter.{renewedFences, renewedIf, flipFences, moveFences}
+use Rattle.index.specs.Alter.{Suits, blockIn, isWhole, mergeWords, flipWords, moveWords}
+use Rattle.index.specs.Alter.{renewedFences, flipFences, moveFences}
 use Rattle.index.specs.Entry.{planOf}
 use Rattle.index.specs.Fences.{fencesFrom}
 use Rattle.index.specs.Memory.{Memory, memoryOf, blockAt}

@@ -6,7 +6,7 @@ use native.Mathlib.Omega.{arith}
 use Rattle.blocks.specs.Shape.{Limits, blockSize, fenceCount}
 use Rattle.blocks.proofs.Sizes.{place-fits, few-groups, few-fences}
 use Rattle.index.specs.Memory.{shapeOf}
-use Rattle.index.specs.Entry.{planOf, Planned}
+use Rattle.index.specs.Entry.{Planned}
 use Rattle.index.specs.Alter.{Suits, Fenced}
 use Rattle.index.specs.declared.header.Header.{Header}
 use Rattle.index.specs.declared.entry.Plan.{Plan}

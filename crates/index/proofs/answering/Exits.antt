@@ -1,18 +1,18 @@
 -- The exits of the calls that change nothing: each answer is the one that the checks, in their order, call for. Assumes nothing.
 use mathlib.Core.Path.{_≡_, refl, sym, ap, _∙_}
-use mathlib.Core.Bool.{true, false, not}
+use mathlib.Core.Bool.{not}
 use mathlib.Core.List.{List, [], _∷_}
-use Prim.Native.Nat.{ℕ, _<_}
-use lib.Dec.{ltb, leb}
+use Prim.Native.Nat.{ℕ}
+use lib.Dec.{ltb}
 use lib.ListN.{length}
 use borrow.Author.Tests.{leb-false}
-use Rattle.answers.specs.Outcome.{Check, _when_, Outcome, outcome, Gives}
+use Rattle.answers.specs.Outcome.{Check, _when_, Gives}
 use Rattle.answers.specs.declared.Answer.{Answer}
 use Rattle.answers.specs.declared.Answer.the-variants.{Refused}
 use Rattle.answers.specs.declared.Refusal.{Refusal}
 use Rattle.answers.specs.declared.Refusal.the-variants.{Damaged, OutSmall}
 use Rattle.index.specs.Alter.{Suits, queryValue}
-use Rattle.index.specs.Entry.{planOf, Planned, enteredValue, enteredRow}
+use Rattle.index.specs.Entry.{Planned, enteredValue, enteredRow}
 use Rattle.index.specs.Memory.{Memory, memoryOf, blockAt, rowsIn}
 use Rattle.index.specs.Reading.{rowOf, refusedValue, valueOf, valuePaper}
 use Rattle.index.specs.Calls.{badValue, noRow, whole, queryList, queryOutcome, valueOutcome}

@@ -1,12 +1,12 @@
 -- The exits of Audit: the answer is the one that the checks, in their order, call for. Assumes nothing.
 use mathlib.Core.Path.{_≡_, refl, sym, ap, _∙_}
-use mathlib.Core.Bool.{Bool, true, false, not}
+use mathlib.Core.Bool.{Bool, not}
 use mathlib.Core.List.{List, [], _∷_}
 use Prim.Native.Nat.{ℕ}
 use lib.Dec.{T}
 use lib.ListN.{length}
 use Rattle.answers.specs.Numbers.{paper}
-use Rattle.answers.specs.Outcome.{Check, _when_, Outcome}
+use Rattle.answers.specs.Outcome.{_when_, Outcome}
 use Rattle.answers.specs.declared.Answer.the-variants.{Done, Refused}
 use Rattle.answers.specs.declared.Refusal.{Refusal}
 use Rattle.answers.specs.declared.Refusal.the-variants.{Damaged}

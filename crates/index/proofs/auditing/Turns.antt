@@ -15,7 +15,7 @@ use Rattle.blocks.specs.Audit.{soundLists}
 use Rattle.blocks.specs.Block.{part, valueLength, current}
 use Rattle.blocks.proofs.Sizes.{few-groups}
 use Rattle.blocks.proofs.SoundLists.{sound-parts}
-use Rattle.index.specs.Alter.{Suits, Fenced, blockIn, listIn}
+use Rattle.index.specs.Alter.{Fenced, blockIn, listIn}
 use Rattle.index.specs.Entry.{Planned}
 use Rattle.index.specs.Fences.{rightFences}
 use Rattle.index.specs.Memory.{Memory, memoryOf, withinLimits, shapeOf, lent, blockAt, rowsIn, fencesAt, soundValue, every, holdersOf, isSound}
@@ -24,9 +24,9 @@ use Rattle.index.specs.declared.header.Fence.{Fence}
 use Rattle.index.specs.declared.entry.Plan.{Plan}
 use Rattle.index.proofs.Entries.{planned-lent}
 use Rattle.index.proofs.Every.{every-holds, holds-every}
-use Rattle.index.proofs.Planning.{one-more, numbers, limits, suits, fenced}
+use Rattle.index.proofs.Planning.{one-more, numbers, limits, fenced}
 use Rattle.index.proofs.Taken.{takenBefore, apartUpTo, apart-stops, SoundUpTo, apart-holders}
-use Rattle.index.proofs.Taking.{Taking, taking-begins, taking-says, taking-on}
+use Rattle.index.proofs.Taking.{Taking, taking-begins, taking-on}
 use Rattle.index.proofs.changing.Leaving.{is-false, is-true}
 use Rattle.index.proofs.changing.Steps.{whole-short}
 

@@ -7,7 +7,7 @@ use lib.ListN.{length}
 use Rattle.answers.specs.declared.Refusal.{Refusal}
 use Rattle.blocks.specs.Block.{valueLength}
 use Rattle.blocks.proofs.WholeLists.{whole-parts}
-use Rattle.index.specs.Alter.{Suits, Fenced, blockIn, isWhole, mergeAlter, mergeWords, flipAlter, flipWords, moveAlter, moveWords}
+use Rattle.index.specs.Alter.{Fenced, blockIn, isWhole, mergeAlter, mergeWords, flipAlter, flipWords, moveAlter, moveWords}
 use Rattle.index.specs.Alter.{renewedFences, renewedIf, flipFences, moveFences}
 use Rattle.index.specs.declared.alter.Alter.the-variants.{Fails, Keeps, Renews}
 use Rattle.index.specs.declared.alter.Move.the-variants.{Breaks, Moves}

@@ -1,6 +1,6 @@
 -- The exits of Dump: the answer and the output are those that the checks, in their order, call for. Assumes nothing.
 use mathlib.Core.Path.{_≡_, refl, sym, _∙_}
-use mathlib.Core.Bool.{Bool, true, false, not}
+use mathlib.Core.Bool.{Bool, true, not}
 use mathlib.Core.List.{List, [], _∷_}
 use Prim.Native.Nat.{ℕ, _≤_}
 use native.Mathlib.Omega.{arith}
@@ -14,7 +14,7 @@ use Rattle.answers.specs.declared.Refusal.the-variants.{Damaged, OutSmall}
 use Rattle.words.specs.Rows.{rowLimit}
 use Rattle.index.specs.Entry.{Planned, enteredIndex}
 use Rattle.index.specs.Dumping.{valuesHold, markedValues, rowsGiven}
-use Rattle.index.specs.Memory.{Memory, memoryOf, withinLimits, lent, every}
+use Rattle.index.specs.Memory.{Memory, memoryOf, every}
 use Rattle.index.specs.Reading.{rowOf, isDamaged}
 use Rattle.index.specs.Calls.{bytesOf, dumpOutcome}
 use Rattle.index.specs.declared.header.Header.{Header}

@@ -7,7 +7,7 @@ use native.Mathlib.Omega.{arith}
 use lib.Dec.{T}
 use lib.ListN.{length, getD}
 use Rattle.words.specs.Rows.{rowLimit}
-use Rattle.index.specs.Entry.{planOf, Planned}
+use Rattle.index.specs.Entry.{Planned}
 use Rattle.index.specs.Alter.{Suits, blockIn}
 use Rattle.index.specs.Dumping.{fencesFor, fenceHolds, fenceMarked, fenceNumber, fencesHold, markedFences, valuesHold, markedValues}
 use Rattle.index.specs.Fences.{noFence}

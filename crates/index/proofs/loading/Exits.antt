@@ -1,6 +1,6 @@
 -- The exits of Load: the answer, the header, all words and all fences are those that the checks, in their order, call for. Assumes nothing.
 use mathlib.Core.Path.{_≡_, refl, sym, ap, _∙_}
-use mathlib.Core.Bool.{Bool, true, false, not, _&&_, and-true, and-eq-true-iff}
+use mathlib.Core.Bool.{true, not, and-true, and-eq-true-iff}
 use mathlib.Core.List.{List, [], _∷_}
 use Prim.Native.Nat.{ℕ, _*_, _<_, _≤_, _^_}
 use native.Mathlib.Omega.{arith}
@@ -14,7 +14,7 @@ use Rattle.answers.proofs.Accepted.{Passes}
 use Rattle.blocks.specs.Shape.{blockSize, fenceCount}
 use Rattle.index.specs.Entry.{planOf, Planned, headerFor, validColumn, enteredIndex, enteredLoad}
 use Rattle.index.specs.Memory.{Memory, memoryOf, limits, withinLimits, shapeOf, lent}
-use Rattle.index.specs.Outcomes.{After, made, change, refusedBy, doneWith, Leaves}
+use Rattle.index.specs.Outcomes.{After, made, refusedBy, doneWith, Leaves}
 use Rattle.index.specs.Calls.{noHeader, loadHeader, loadChecks, loadedIn, loadAfter}
 use Rattle.index.specs.declared.header.Header.{Header}
 use Rattle.index.specs.declared.header.Fence.{Fence}

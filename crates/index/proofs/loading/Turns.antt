@@ -1,14 +1,14 @@
 -- One turn of loading: the block of a value, and its fences behind it. Assumes nothing.
-use mathlib.Core.Path.{_≡_, refl, sym, ap, ap₂, _∙_}
+use mathlib.Core.Path.{_≡_, refl, _∙_}
 use mathlib.Core.Bool.{true}
 use mathlib.Core.List.{List}
-use Prim.Native.Nat.{ℕ, suc, _+_, _<_, _≤_}
+use Prim.Native.Nat.{ℕ, _+_, _<_, _≤_}
 use native.Mathlib.Omega.{arith}
 use lib.ListN.{length}
 use Rattle.blocks.specs.Block.{valueLength}
 use Rattle.blocks.specs.Column.{loaded}
 use Rattle.blocks.proofs.Columns.{length-loaded, whole-loaded}
-use Rattle.index.specs.Entry.{planOf, Planned}
+use Rattle.index.specs.Entry.{Planned}
 use Rattle.index.specs.Alter.{Suits, Fenced, blockIn, putBlock, isWhole, renewedFences}
 use Rattle.index.specs.Memory.{Memory, memoryOf, blockAt}
 use Rattle.index.specs.Calls.{withBlock, renewed, loadedIn}
@@ -16,7 +16,7 @@ use Rattle.index.specs.declared.header.Header.{Header}
 use Rattle.index.specs.declared.header.Fence.{Fence}
 use Rattle.index.specs.declared.entry.Plan.{Plan}
 use Rattle.index.proofs.Altering.{put-block}
-use Rattle.index.proofs.Planning.{one-more, numbers, limits, suits, fenced}
+use Rattle.index.proofs.Planning.{one-more, numbers, suits, fenced}
 use Rattle.index.proofs.changing.Steps.{whole-short, still-fenced}
 
 module _ {header : Header} {plan : Plan} (words : List ℕ) (fences : List Fence) (column : List ℕ)

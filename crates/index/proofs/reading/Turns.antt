@@ -1,15 +1,15 @@
 -- One turn of reading a row: the fence that is asked, and what the value's read adds. Assumes nothing.
 use mathlib.Core.Path.{_≡_, refl, ap, _∙_}
 use mathlib.Core.List.{List}
-use Prim.Native.Nat.{ℕ, suc, _+_, _*_, _/_, _<_, _≤_, _^_}
+use Prim.Native.Nat.{ℕ, _+_, _*_, _/_, _<_, _≤_, _^_}
 use native.Mathlib.Nat.{div-le-self}
 use native.Mathlib.Omega.{arith}
 use lib.ListN.{length, getD}
 use Rattle.blocks.specs.Read.{readGroup}
-use Rattle.index.specs.Entry.{planOf, Planned}
+use Rattle.index.specs.Entry.{Planned}
 use Rattle.index.specs.Alter.{Suits, blockIn}
 use Rattle.index.specs.Fences.{noFence}
-use Rattle.index.specs.Memory.{Memory, memoryOf, shapeOf, blockAt}
+use Rattle.index.specs.Memory.{Memory, memoryOf, blockAt}
 use Rattle.index.specs.Reading.{fenceFor, readIn, rowStep, readRow, rowOf}
 use Rattle.index.specs.declared.header.Header.{Header}
 use Rattle.index.specs.declared.header.Fence.{Fence}
