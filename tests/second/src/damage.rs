@@ -1,12 +1,12 @@
 //! Damage to a loaded index: each kind breaks one rule, as far as that can be done alone.
 
 use crate::console::words_text;
+use crate::dialogue::Step;
 use crate::header::Header;
 use crate::index::{fences_of, Fence, Which};
 use crate::packing::{fill_tail, loosen_fill, split_fill};
 use crate::player::Player;
 use crate::rows::{decode, encode, ones, xor, FILL, FILL_ONES, GROUP};
-use crate::session::Step;
 
 impl Player {
     /// Does one damage to an index whose header is allowed and whose memory is lent.

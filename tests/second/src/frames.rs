@@ -1,12 +1,12 @@
 //! Random frames for the printing program.
 
+use crate::dialogue::Difference;
 use crate::fault::Fault;
 use crate::header::Header;
 use crate::printing::print;
 use crate::process::Program;
 use crate::rng::Rng;
 use crate::rows::GROUP;
-use crate::session::Difference;
 use crate::shapes::{column, issued, odd_shape, shape, small_shape};
 use crate::tally::Tally;
 

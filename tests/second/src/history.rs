@@ -1,11 +1,11 @@
 //! Random histories of one console.
 
+use crate::dialogue::{Dialogue, Difference, Step};
 use crate::header::Header;
 use crate::player::{load_line, Player};
 use crate::process::Program;
 use crate::rng::Rng;
 use crate::rows::{GROUP, MOST_ROWS};
-use crate::session::{Difference, Session, Step};
 use crate::shapes::{issued, large_shape, middle_shape, odd_shape, shape, small_shape};
 use crate::tally::Tally;
 
@@ -15,7 +15,7 @@ const DUMP_WORK: usize = 100_000_000;
 /// Plays history `number` of a seed.
 pub fn play(desk: &Program, seed: u64, number: usize, show: bool) -> Result<Tally, Difference> {
     let rng = Rng::new(seed, number as u64);
-    let mut player = Player::new(rng, Session::start(desk, show)?);
+    let mut player = Player::new(rng, Dialogue::start(desk, show)?);
     match number {
         0 => player.example()?,
         1 => player.largest()?,
@@ -25,7 +25,7 @@ pub fn play(desk: &Program, seed: u64, number: usize, show: bool) -> Result<Tall
     if number < 4 || player.rng.chance(3) {
         player.look_everywhere()?;
     }
-    let mut tally = player.session.end()?;
+    let mut tally = player.dialogue.end()?;
     tally.histories = 1;
     Ok(tally)
 }

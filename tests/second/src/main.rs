@@ -3,13 +3,14 @@
 //! - The model: `rows` and `header` (lists and sizes), `index` (memory), `reading`, `queries`,
 //!   `changes` and `audit` (the calls), `refusal`, `console` and `printing` (the two programs).
 //! - What it is asked: `rng`, `shapes`, `player`, `trials`, `packing`, `damage`, `history`, `frames`.
-//! - Comparing: `process` and `session` (a child process beside the model), `run`, `tally`.
+//! - Comparing: `process` and `dialogue` (a child process beside the model), `run`, `tally`.
 //! - `fault`: ways to make the played programs wrong, to see that a run notices.
 
 mod audit;
 mod changes;
 mod console;
 mod damage;
+mod dialogue;
 mod fault;
 mod frames;
 mod header;
@@ -26,7 +27,6 @@ mod refusal;
 mod rng;
 mod rows;
 mod run;
-mod session;
 mod shapes;
 mod tally;
 mod trials;

@@ -1,9 +1,9 @@
 //! Trials of Pack and Unpack.
 
 use crate::console::words_text;
+use crate::dialogue::Step;
 use crate::player::Player;
 use crate::rows::{encode, groups_of, FILL, FILL_ONES, MOST_ROWS};
-use crate::session::Step;
 use crate::shapes::column;
 
 impl Player {

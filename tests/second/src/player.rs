@@ -1,11 +1,11 @@
 //! What all histories use: saying lines, looking at memory, random arguments and calls.
 
 use crate::console::{CONSOLE_FENCES, CONSOLE_WORDS};
+use crate::dialogue::{Dialogue, Step};
 use crate::header::Header;
 use crate::index::Index;
 use crate::rng::Rng;
 use crate::rows::MOST_ROWS;
-use crate::session::{Session, Step};
 use crate::shapes::column;
 
 /// Most words and fences that are looked at after each call.
@@ -16,32 +16,32 @@ const BEYOND: usize = 6;
 
 pub struct Player {
     pub rng: Rng,
-    pub session: Session,
+    pub dialogue: Dialogue,
     /// Words and fences that any header of this history used.
     used_words: usize,
     used_fences: usize,
 }
 
 impl Player {
-    pub fn new(rng: Rng, session: Session) -> Player {
+    pub fn new(rng: Rng, dialogue: Dialogue) -> Player {
         Player {
             rng,
-            session,
+            dialogue,
             used_words: 0,
             used_fences: 0,
         }
     }
 
     pub fn index(&self) -> &Index {
-        self.session.index()
+        self.dialogue.index()
     }
 
     pub fn header(&self) -> Header {
-        self.session.index().header
+        self.dialogue.index().header
     }
 
     pub fn say(&mut self, line: impl AsRef<str>) -> Step {
-        self.session.say(line.as_ref())
+        self.dialogue.say(line.as_ref())
     }
 
     /// A call, and a look at memory after it.
@@ -56,7 +56,7 @@ impl Player {
         if !header.allowed() {
             return;
         }
-        let index = self.session.index();
+        let index = self.dialogue.index();
         let words = header.words_needed().min(index.lent_words);
         let fences = header.fences_needed().min(index.lent_fences);
         self.used_words = self.used_words.max(words);

@@ -5,10 +5,10 @@ use std::sync::atomic::{AtomicBool, AtomicUsize, Ordering};
 use std::sync::Mutex;
 use std::thread;
 
+use crate::dialogue::Difference;
 use crate::frames::try_frame;
 use crate::history::play;
 use crate::options::Options;
-use crate::session::Difference;
 use crate::tally::Tally;
 
 /// From so many histories and frames on, each answer that a call can give must have been seen.

@@ -1,7 +1,7 @@
 //! Single trials that a history strings together: ordinary changes and each kind of refusal.
 
+use crate::dialogue::Step;
 use crate::player::{load_line, Player};
-use crate::session::Step;
 use crate::shapes::{column, issued, odd_shape, small_shape};
 
 /// Lines that the console does not take, places past its memory, and lines that get no answer.

@@ -16,7 +16,7 @@ pub struct Difference {
 
 pub type Step = Result<(), Difference>;
 
-pub struct Session {
+pub struct Dialogue {
     console: Talk,
     model: Console,
     sent: usize,
@@ -25,15 +25,15 @@ pub struct Session {
     show: bool,
 }
 
-impl Session {
-    pub fn start(desk: &Program, show: bool) -> Result<Session, Difference> {
+impl Dialogue {
+    pub fn start(desk: &Program, show: bool) -> Result<Dialogue, Difference> {
         let console = Talk::start(desk).map_err(|why| Difference {
             line_number: 0,
             sent: String::new(),
             expected: "a console".into(),
             got: why,
         })?;
-        Ok(Session {
+        Ok(Dialogue {
             console,
             model: Console::new(Fault::None),
             sent: 0,
