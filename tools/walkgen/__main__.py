@@ -1,10 +1,10 @@
 """walkgen: proofs of Rattle functions over slices of structs, written from their MIR.
 
-    python3 tools/walkgen lib   CRATE              write the library of a walk into CRATE/proofs
+    python3 tools/walkgen lib   crates/walks       write the library that all walks of the repository cite
     python3 tools/walkgen thin  CRATE FN at|put    write the proof of a thin read or a thin write
     python3 tools/walkgen show  CRATE FN           print FN's MIR, and each key that its walk.txt may have
     python3 tools/walkgen walk  CRATE [FN ..]      write the proofs of FN .., or of all that have a walk.txt
-    python3 tools/walkgen check CRATE              say whether the library and the proofs are what walkgen writes
+    python3 tools/walkgen check CRATE              say whether the proofs are what walkgen writes; of crates/walks the library
 
 CRATE is a crate's folder, crates/NAME. FN is a function's name, with its module where that is needed: `a::insert`.
 With --mir FILE the MIR is read from a file that `rt mir NAME` printed, and rt is not run.
@@ -20,16 +20,14 @@ import mir
 import proof
 from check import Check
 from refusal import Refused
-from sources import Sources
+from sources import LIBRARY, Sources
 from terms import replaced
 
 
 def lib(sources, options):
-    functions = library.walked_functions(sources)
-    routines = mir.of_crate(sources, options.mir) if functions else {}
-    shapes = set()
-    for function in functions:
-        shapes |= library.walk_of(sources, function, routines).shapes
+    if sources.crate != LIBRARY:
+        raise Refused(f"the library stands in crates/{LIBRARY}")
+    shapes = library.shapes_in_use(sources)
     library.write_library(sources, shapes)
     print("shapes: " + " ".join(sorted(shape or "0" for shape in shapes | library.ALWAYS)))
 
@@ -68,12 +66,15 @@ def walk(sources, options):
 
 def check(sources, options):
     comparison = Check(sources)
-    comparison.run(lambda: mir.of_crate(sources, options.mir))
+    if sources.crate == LIBRARY:
+        comparison.compare_library(library.shapes_in_use(sources))
+    else:
+        comparison.compare_proofs(lambda: mir.of_crate(sources, options.mir))
     for line in comparison.differences:
         print(line)
     if comparison.differences:
         sys.exit(1)
-    print(f"{len(comparison.functions)} walks as generated")
+    print("the library as generated" if sources.crate == LIBRARY else f"{len(comparison.functions)} walks as generated")
 
 
 def in_source_names(walk_, goal):
@@ -92,7 +93,7 @@ def parse(arguments):
             words.add_argument("function")
         if command is thin:
             words.add_argument("kind", choices=library.THIN)
-        else:
+        elif command is not lib:
             words.add_argument("--mir")
         if command is walk:
             words.add_argument("functions", nargs="*")

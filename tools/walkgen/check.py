@@ -1,4 +1,4 @@
-"""Whether what stands in a crate's proofs is what walkgen writes."""
+"""Whether what stands in a crate's proofs, or in the library, is what walkgen writes."""
 import os
 
 import library
@@ -8,22 +8,19 @@ from refusal import Refused
 
 
 class Check:
-    """Generates a crate's walks and their library anew, in memory, and compares."""
+    """Generates a crate's walks, or the library, anew, in memory, and compares."""
 
     def __init__(self, sources):
         self.sources = sources
         self.functions = library.walked_functions(sources)
         self.differences = []       # a line for each
-        self.shapes = set()         # of the calls in the walks; None where a walk cannot be written
 
-    def run(self, read_routines):
+    def compare_proofs(self, read_routines):
         """read_routines reads the MIR, which is not asked for where there is no walk."""
         self.find_strays()
         if self.functions:
             self.compare_walks(read_routines())
-        thin_functions = self.compare_thin_functions()
-        if self.functions or thin_functions:
-            self.compare_library()
+        self.compare_thin_functions()
 
     def find_strays(self):
         """A walk.txt that is no function's, and a walk that has no walk.txt."""
@@ -45,23 +42,16 @@ class Check:
         for function in self.functions:
             try:
                 walk = library.walk_of(self.sources, function, routines)
+                self.compare(library.proof_file(self.sources, function), proof.Proof(walk).text())
             except Refused as refusal:
                 self.differences.append(str(refusal))
-                self.shapes = None
-                continue
-            if self.shapes is not None:
-                self.shapes |= walk.shapes
-            self.compare(library.proof_file(self.sources, function), proof.Proof(walk).text())
 
     def compare_thin_functions(self):
-        """The proofs that say that they are those of thin functions, and how many these are."""
-        count = 0
+        """The proofs that say that they are those of thin functions."""
         for function in self.sources.own_functions():
             for kind in library.THIN:
                 if self.head(function) == library.thin_first_line(function, kind):
-                    count += 1
                     self.compare_thin(function, kind)
-        return count
 
     def compare_thin(self, function, kind):
         path = library.proof_file(self.sources, function)
@@ -70,13 +60,9 @@ class Check:
         except Refused as refusal:
             self.differences.append(f"{path}: {refusal}")
 
-    def compare_library(self):
-        found = library.library_texts(self.sources.crate, self.shapes or set())
-        for module, text in found.items():
-            if module != "Calls" or self.shapes is not None:
-                self.compare(library.library_file(self.sources, module), text)
-        path = library.library_file(self.sources, "Lib")
-        self.compare(path, library.listing(texts.content(path) or "", found))
+    def compare_library(self, shapes):
+        for module, text in library.library_texts(self.sources, shapes).items():
+            self.compare(library.library_file(self.sources, module), text)
 
     def compare(self, path, text):
         there = texts.content(path)

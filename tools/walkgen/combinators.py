@@ -7,6 +7,8 @@ A shape is a word with a letter for each slice of the callee, in order; plain pa
     f   the callee takes a `&mut [R]`, and gets the first records of the caller's own, `&mut own[..m]`
 A `+` at the end is a call that is the last statement of an arm or of a turn.
 """
+import re
+
 from script import Context
 from terms import part, subscript, tuple_of
 
@@ -17,13 +19,19 @@ OPEN = (
     "{rest : Body} where\n")
 DOC = "--     front      as mut, of the first records of the slice; the others stand behind the callee's last list\n"
 FRONT = (
-    "use Rattle·@CRATE@·proofs.proofs.Front.{front, refronted, front-size, LentFront, lend-front, back-front}\n")
+    "use @LIBRARY@Front.{front, refronted, front-size, LentFront, lend-front, back-front}\n")
 
 
 def name_of(shape):
     """The name of a shape's combinator."""
     slices = "-".join(LETTERS[letter] for letter in shape.rstrip("+")) or "plain"
     return f"calls-{slices}{'-last' if shape.endswith('+') else ''}"
+
+
+def shapes_named(text):
+    """The shapes whose combinators a text names."""
+    letters = {word: letter for letter, word in LETTERS.items()} | {"plain": "", "last": "+"}
+    return {"".join(letters[word] for word in name.split("-")) for name in re.findall(r"\bcalls-([a-z-]+)", text)}
 
 
 def file_text(template, shapes):

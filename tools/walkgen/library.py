@@ -1,5 +1,6 @@
-"""The files that walkgen writes into a crate's proofs: the walks, the thin reads and writes, and their library."""
+"""The files that walkgen writes: the walks, the thin reads and writes, and the library that all of them cite."""
 import os
+import re
 
 import combinators
 import proof
@@ -10,9 +11,8 @@ from terms import kebab
 from types_in_use import TypesInUse
 from walk import Walk
 
-COPIED = ("Bytes", "Flow", "Lend", "Local")
-FRONT = "Front"                     # copied too, where a call lends the first records of a slice
-ALWAYS = {"s", "m", "v", "vm"}      # the shapes of a call that every crate gets
+COPIED = ("Bytes", "Flow", "Front", "Lend", "Local")
+ALWAYS = {"s", "m", "v", "vm"}      # the shapes of a call that the library has at least
 THIN = ("at", "put")                # the kinds of thin functions: a read, a write
 
 
@@ -60,6 +60,7 @@ def thin_text(sources, function, kind):
         raise Refused(f"{struct.path} is no struct of two u32")
     gaps = {
         "CRATE": sources.crate,
+        "LIBRARY": sources.library,
         "FUNCTION": function.name,
         "PROOFS": function.dotted,
         "TAG": kebab(function.name),
@@ -86,37 +87,30 @@ def write_proof(sources, function, text):
 
 
 # ---- the library
-def library_texts(crate, shapes):
-    """{module: text} of the library, with the combinators for the shapes of the crate's calls."""
-    has_fronts = any("f" in shape for shape in shapes)
-    found = {name: texts.kept(f"{name}.antt.txt") for name in COPIED + ((FRONT,) if has_fronts else ())}
+def shapes_in_use(sources):
+    """The shapes of the calls in all walks of the repository, as they are written."""
+    shapes = set()
+    for folder, _, files in os.walk(os.path.join(sources.root, "crates")):
+        if "walk.txt" in files:
+            text = texts.content(os.path.join(folder, "Proof.antt")) or ""
+            used = re.search(rf"^use Rattle\.{sources.crate}\.proofs\.Calls\.\{{.*\}}$", text, re.M)
+            shapes |= combinators.shapes_named(used.group()) if used else set()
+    return shapes
+
+
+def library_texts(sources, shapes):
+    """{module: text} of the library, with the combinators for these shapes of calls."""
+    found = {name: texts.kept(f"{name}.antt.txt") for name in COPIED}
     found["Calls"] = combinators.file_text(texts.kept("Calls.antt.txt"), ALWAYS | shapes)
-    return {name: text.replace("@CRATE@", crate) for name, text in found.items()}
+    found = {name: text.replace("@LIBRARY@", sources.library) for name, text in found.items()}
+    found["Lib"] = "".join(f"pub mod {name}\n" for name in sorted(found))
+    return found
 
 
 def library_file(sources, module):
     return in_proofs(sources, f"{module}.antt")
 
 
-def listing(existing, modules):
-    """The text of proofs/Lib.antt with the library's modules: in order, if it has nothing but modules."""
-    lines = [line for line in existing.split("\n") if line.strip()]
-    missing = [line for line in (f"pub mod {name}" for name in sorted(modules)) if line not in lines]
-    if not missing:
-        return existing
-    lines += missing
-    return "\n".join(sorted(lines) if all(line.startswith("pub mod ") for line in lines) else lines) + "\n"
-
-
 def write_library(sources, shapes):
-    """Writes the library, but not over a file that the author has by one of its names."""
-    found = library_texts(sources.crate, shapes)
-    for module, text in found.items():
-        path = library_file(sources, module)
-        existing = texts.content(path)
-        if existing is not None and texts.first_line(existing) != texts.first_line(text):
-            raise Refused(f"{path} is not one that walkgen wrote, and a walk needs its name: rename it")
-    for module, text in found.items():
+    for module, text in library_texts(sources, shapes).items():
         texts.write(library_file(sources, module), text)
-    path = library_file(sources, "Lib")
-    texts.write(path, listing(texts.content(path) or "", found))

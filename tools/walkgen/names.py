@@ -10,7 +10,7 @@ import texts
 from refusal import Refused
 from terms import replaced, words_of
 
-# what a walk takes of the files that walkgen writes beside it
+# what a walk takes of the library that walkgen writes
 OWN_FILES = [
     "Lend.{ref}",
     "Flow.{holds, fails, Nearer, Nearer-wf, told, told-enum, tests, matches, matches-last, while-loops, "
@@ -52,7 +52,8 @@ class Names:
 
     def __init__(self, sources, function, author_uses):
         self.sources = sources
-        self.library = [sources.modules(sources.crate, "proofs") + line for line in OWN_FILES]
+        sources.require_library()
+        self.library = [sources.library + line for line in OWN_FILES]
         self.of_steps = {**brought_by(steps() + self.library), **{name: None for name in BOUND}}
         self.meaning = dict(self.of_steps)      # {name: (module, its name there)}, None where the text binds it
         self.uses = steps()

@@ -54,7 +54,7 @@ class Proof:
         """The `use` lines of the combinators, of the callees and of the function itself."""
         own = self.sources.modules(self.sources.crate, "proofs")
         steps = sorted({combinators.name_of(shape) for shape in self.walk.shapes})
-        lines = [f"{own}Calls.{{contractOf, {', '.join(steps)}}}"]      # `use ..Calls.{}`, if there is no call
+        lines = [f"{self.sources.library}Calls.{{contractOf, {', '.join(steps)}}}"]     # `use ..Calls.{}`, if there is no call
         for callee in self.walk.callees:
             module = self.sources.modules(callee.crate, "proofs") + callee.dotted
             tag, symbol = self.sources.tag(callee), self.sources.symbol(callee)

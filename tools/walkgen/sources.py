@@ -16,6 +16,7 @@ FUNCTION = re.compile(
     r"\bfn (\w+)\s*(?:<[^>]*>)?\s*\(([^)]*)\)\s*(?:->\s*([^{}]+?))?\s*(?=\brequires\b|\bensures\b|\bghost\b|\{)")
 REQUIRES = re.compile(r"\s*requires\s*\{\s*⌜(.*?)⌝\s*\}", re.S)
 ENSURES = re.compile(r"\s*ensures\s*\{\s*λ (\S+?)\.\s*⌜(.*?)⌝\s*\}", re.S)
+LIBRARY = "walks"       # the crate that has the steps of all walks, and no code
 LOCAL_ARRAY = re.compile(r"\blet\s+(?:mut\s+)?(\w+)\s*(?::[^=;]*(?:;[^=]*)?)?=\s*\[")
 
 
@@ -131,6 +132,11 @@ class Sources:
         """The path to a crate's specs or proofs: its own by the library, another's through its facade."""
         return f"Rattle.{crate}.{part}." if crate == self.crate else f"Rattle.{crate}.{part}."
 
+    @property
+    def library(self):
+        """The path to the steps of a walk."""
+        return self.modules(LIBRARY, "proofs")
+
     def own_functions(self):
         return [function for _, function in sorted(self.functions.items()) if function.crate == self.crate]
 
@@ -167,6 +173,10 @@ class Sources:
         if not self.may_name(crate):
             raise Refused(
                 f"the walk names {what}, of the crate {crate}: add {crate} to the line of {self.crate} in `crates.txt`")
+
+    def require_library(self):
+        if LIBRARY not in self.named_crates:
+            raise Refused(f"a walk's steps stand in the crate {LIBRARY}: add it to the line of {self.crate} in `crates.txt`")
 
     def tag(self, function):
         """A function's name in a proof: with its path where two functions have one name."""

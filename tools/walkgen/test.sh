@@ -7,6 +7,7 @@ folder=$(mktemp -d)
 trap 'rm -rf "$folder"' EXIT
 cd "$folder" || exit 1
 proofs=crates/shelf/proofs
+library=crates/walks/proofs
 
 fail() {
     echo "walkgen: $*"
@@ -17,48 +18,49 @@ walkgen() {
     python3 "$here" "$@" >said 2>&1
 }
 
-# Whether `walkgen check` finds one difference, in FILE.
+# Whether `walkgen check` of the crate of FILE finds one difference, in FILE.
 told() { # FILE
-    walkgen check crates/shelf
+    walkgen check "${1%%/proofs/*}"
     [ $? -eq 1 ] || fail "a change of $1 is not told"
-    if [ "$(wc -l <said)" -ne 1 ] || ! grep -q "^$proofs/$1:" said; then
+    if [ "$(wc -l <said)" -ne 1 ] || ! grep -q "^$1:" said; then
         fail "a change of $1 is told as: $(cat said)"
     fi
 }
 
 # Changes FILE by a command of sed, sees that this is told, and puts the file back.
 changed() { # FILE COMMAND
-    cp "$proofs/$1" kept
-    sed -i "$2" "$proofs/$1"
+    cp "$1" kept
+    sed -i "$2" "$1"
     told "$1"
-    mv kept "$proofs/$1"
+    mv kept "$1"
 }
 
-# The crate, with its files by the names that they have in a crate.
-mkdir -p crates/shelf
+# The crate, with its files by the names that they have in a crate, and the one for the library.
+mkdir -p crates/shelf crates/walks/src
+echo "// The steps of walks." >crates/walks/src/lib.rt
 cp -r "$here"/test/* crates/shelf
 find crates -name '*.*.txt' | while IFS= read -r file; do mv "$file" "${file%.txt}"; done
-echo "shelf:" >crates.txt
+printf 'walks:\nshelf: walks\n' >crates.txt
 
 # The walks are written and proved, and stand in the layout of rt fmt.
-walkgen lib crates/shelf || fail "lib: $(cat said)"
 walkgen thin crates/shelf mark_at at || fail "thin read: $(cat said)"
 walkgen thin crates/shelf put_mark put || fail "thin write: $(cat said)"
 walkgen walk crates/shelf || fail "walk: $(cat said)"
 [ ! -s said ] || fail "walk: $(cat said)"
+walkgen lib crates/walks || fail "lib: $(cat said)"
 RT_JOBS=1 rt check shelf >log 2>&1 || fail "not proved: $(grep -v note: log | cut -c1-300 | head -n 20)"
 rt fmt --check >log 2>&1 || fail "not in the layout of rt fmt: $(cat log)"
 
 # They are as generated; a changed line is told, of a walk, a thin function or the library, and a file that is not there.
 walkgen check crates/shelf || fail "check: $(cat said)"
 [ "$(cat said)" = "3 walks as generated" ] || fail "check says: $(cat said)"
-changed marks/clear/Proof.antt '2s/nothing/something/'
-changed marks/put_mark/Proof.antt '2s/nothing/something/'
-changed Calls.antt '2s/$/ more/'
-changed Front.antt '2s/$/ more/'
-changed Lib.antt '/pub mod Flow/d'
-changed Lib.antt '/pub mod Front/d'
+walkgen check crates/walks || fail "check of the library: $(cat said)"
+changed "$proofs/marks/clear/Proof.antt" '2s/nothing/something/'
+changed "$proofs/marks/put_mark/Proof.antt" '2s/nothing/something/'
+changed "$library/Calls.antt" '2s/$/ more/'
+changed "$library/Front.antt" '2s/$/ more/'
+changed "$library/Lib.antt" '/pub mod Flow/d'
 rm "$proofs/restart/Proof.antt"
-told restart/Proof.antt
+told "$proofs/restart/Proof.antt"
 
 echo "walkgen: 3 walks written, proved, and told from changed ones"

@@ -1,9 +1,3 @@
-pub mod Bytes
-pub mod Calls
 pub mod Cases
-pub mod Flow
-pub mod Front
-pub mod Lend
-pub mod Local
 pub mod Parts
 pub mod Spelling

@@ -1,17 +1,12 @@
 pub mod Altering
-pub mod Bytes
-pub mod Calls
 pub mod DumpFences
 pub mod DumpValues
 pub mod DumpLaws
 pub mod Entries
 pub mod Every
 pub mod FenceRecords
-pub mod Flow
 pub mod Headers
 pub mod Holders
-pub mod Lend
-pub mod Local
 pub mod MemoryLeft
 pub mod OneOutcome
 pub mod Planning

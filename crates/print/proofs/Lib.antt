@@ -1,11 +1,6 @@
-pub mod Bytes
-pub mod Calls
 pub mod Cases
 pub mod Digits
-pub mod Flow
 pub mod Inputs
-pub mod Lend
 pub mod Lines
-pub mod Local
 pub mod Room
 pub mod Stores

@@ -39,10 +39,10 @@ use denote.Triple.Walked.{Stays, stay-slice, walkOf, Walks, ends-at, walked, goe
 use Rattle.index.specs.declared.header.Fence.{Fence}
 use Rattle.index.proofs.header.Fence as Fence-T
 use Rattle.index.proofs.header.Fence.Laws as Fence-L
-use Rattle.desk.proofs.Lend.{ref}
-use Rattle.desk.proofs.Flow.{frees-all, empties, big-lit}
-use Rattle.desk.proofs.Local.{repeats, lend-array, back-array}
-use Rattle.desk.proofs.Calls.{contractOf, calls-mut-mut-mut}
+use Rattle.walks.proofs.Lend.{ref}
+use Rattle.walks.proofs.Flow.{frees-all, empties, big-lit}
+use Rattle.walks.proofs.Local.{repeats, lend-array, back-array}
+use Rattle.walks.proofs.Calls.{contractOf, calls-mut-mut-mut}
 use Rattle.desk.proofs.serve.serve as serve-F
 use Rattle.desk.proofs.serve.serve.Symbol as serve-def
 use Rattle.desk.proofs.serve.serve.Symbol.{name as #desk·serve}

@@ -26,7 +26,7 @@ use Rattle.index.specs.declared.row.Holder.the-variants.{Found, Lost}
 use Rattle.index.proofs.Entries.{Enters, ready-enters, ready-change}
 use Rattle.index.proofs.MemoryLeft.{moved-memory}
 use Rattle.index.proofs.changing.Leaving.{refused-leaves, made-leaves, is-false, is-true, stops, whole-is, holder-checks, lost, says, old-below, passed}
-use Rattle.index.proofs.Flow.{holds}
+use Rattle.walks.proofs.Flow.{holds}
 use Rattle.index.proofs.Planning.{numbers, fenced}
 use Rattle.index.proofs.alter.Moving.{move-kept}
 

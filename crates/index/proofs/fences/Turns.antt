@@ -19,7 +19,7 @@ use Rattle.index.specs.Fences.{fence, noFence, fencesFrom, fenceBefore, 
 use Rattle.index.specs.declared.header.Fence.{Fence}
 use Rattle.index.specs.declared.entry.Plan.{Plan}
 use Rattle.index.proofs.FenceRecords.{length-fencesFrom, one-fence-more, all-right, one-wrong}
-use Rattle.index.proofs.Flow.{fails}
+use Rattle.walks.proofs.Flow.{fails}
 use Rattle.index.proofs.Planning.{one-more}
 
 module _ {plan : Plan} (words : List ℕ) (value : ℕ) (suits : Suits plan (length words) value) where

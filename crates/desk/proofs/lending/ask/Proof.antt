@@ -51,9 +51,9 @@ use Rattle.desk.proofs.orders.Order.Laws as Order-L
 use Rattle.desk.proofs.lending.Question as Question-T
 use Rattle.desk.proofs.lending.Question.Laws as Question-L
 use Rattle.desk.specs.declared.lending.Question.the-variants.{Queries, Values, Dumps, Audits}
-use Rattle.desk.proofs.Lend.{ref}
-use Rattle.desk.proofs.Flow.{matches, frees-all, empties}
-use Rattle.desk.proofs.Calls.{contractOf, calls-plain, calls-view-view-last}
+use Rattle.walks.proofs.Lend.{ref}
+use Rattle.walks.proofs.Flow.{matches, frees-all, empties}
+use Rattle.walks.proofs.Calls.{contractOf, calls-plain, calls-view-view-last}
 use Rattle.desk.proofs.lending.question_of as question-of-F
 use Rattle.desk.proofs.lending.question_of.Symbol as question-of-def
 use Rattle.desk.proofs.lending.question_of.Symbol.{name as #desk·question-of}

@@ -46,9 +46,9 @@ use Rattle.index.proofs.header.Fence as Fence-T
 use Rattle.index.specs.declared.header.Header.{Header}
 use Rattle.index.proofs.header.Header as Header-T
 use Rattle.index.proofs.header.Header.Laws as Header-L
-use Rattle.desk.proofs.Lend.{ref}
-use Rattle.desk.proofs.Flow.{told-enum, frees-all, empties}
-use Rattle.desk.proofs.Calls.{contractOf, calls-plain, calls-shr-shr}
+use Rattle.walks.proofs.Lend.{ref}
+use Rattle.walks.proofs.Flow.{told-enum, frees-all, empties}
+use Rattle.walks.proofs.Calls.{contractOf, calls-plain, calls-shr-shr}
 use Rattle.index.proofs.auditing.audit as audit-F
 use Rattle.index.proofs.auditing.audit.Symbol as audit-def
 use Rattle.index.proofs.auditing.audit.Symbol.{name as #index·audit}

@@ -52,11 +52,11 @@ use Rattle.index.proofs.header.Header.Laws as Header-L
 use Rattle.desk.specs.declared.lent.Lent.{Lent}
 use Rattle.desk.proofs.lent.Lent as Lent-T
 use Rattle.desk.proofs.lent.Lent.Laws as Lent-L
-use Rattle.desk.proofs.Lend.{ref}
-use Rattle.desk.proofs.Flow.{told-enum, frees-all, empties, big-lit}
-use Rattle.desk.proofs.Local.{repeats, lend-array, back-array}
-use Rattle.desk.proofs.Front.{front, refronted, front-length}
-use Rattle.desk.proofs.Calls.{contractOf, calls-plain, calls-shr-shr-front, calls-view}
+use Rattle.walks.proofs.Lend.{ref}
+use Rattle.walks.proofs.Flow.{told-enum, frees-all, empties, big-lit}
+use Rattle.walks.proofs.Local.{repeats, lend-array, back-array}
+use Rattle.walks.proofs.Front.{front, refronted, front-length}
+use Rattle.walks.proofs.Calls.{contractOf, calls-plain, calls-shr-shr-front, calls-view}
 use Rattle.words.proofs.rows.smaller as words-rows-smaller-F
 use Rattle.words.proofs.rows.smaller.Symbol as words-rows-smaller-def
 use Rattle.words.proofs.rows.smaller.Symbol.{name as #words·words-rows-smaller}

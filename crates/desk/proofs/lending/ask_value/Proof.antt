@@ -45,9 +45,9 @@ use Rattle.index.proofs.header.Header as Header-T
 use Rattle.index.proofs.header.Header.Laws as Header-L
 use Rattle.index.proofs.row.Value as Value-T
 use Rattle.index.proofs.row.Value.Laws as Value-L
-use Rattle.desk.proofs.Lend.{ref}
-use Rattle.desk.proofs.Flow.{told, frees-all, empties}
-use Rattle.desk.proofs.Calls.{contractOf, calls-plain, calls-shr-shr}
+use Rattle.walks.proofs.Lend.{ref}
+use Rattle.walks.proofs.Flow.{told, frees-all, empties}
+use Rattle.walks.proofs.Calls.{contractOf, calls-plain, calls-shr-shr}
 use Rattle.index.proofs.answering.value as value-F
 use Rattle.index.proofs.answering.value.Symbol as value-def
 use Rattle.index.proofs.answering.value.Symbol.{name as #index·value}

@@ -47,9 +47,9 @@ use Rattle.index.proofs.header.Fence as Fence-T
 use Rattle.desk.specs.declared.orders.Order.{Order}
 use Rattle.desk.proofs.orders.Order as Order-T
 use Rattle.desk.proofs.orders.Order.Laws as Order-L
-use Rattle.desk.proofs.Lend.{ref}
-use Rattle.desk.proofs.Flow.{told, frees-all, empties}
-use Rattle.desk.proofs.Calls.{contractOf, calls-mut-mut-view}
+use Rattle.walks.proofs.Lend.{ref}
+use Rattle.walks.proofs.Flow.{told, frees-all, empties}
+use Rattle.walks.proofs.Calls.{contractOf, calls-mut-mut-view}
 use Rattle.index.proofs.loading.load as load-F
 use Rattle.index.proofs.loading.load.Symbol as load-def
 use Rattle.index.proofs.loading.load.Symbol.{name as #index·load}

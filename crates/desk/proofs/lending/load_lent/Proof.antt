@@ -47,10 +47,10 @@ use Rattle.desk.proofs.lent.Lent.Laws as Lent-L
 use Rattle.desk.specs.declared.orders.Order.{Order}
 use Rattle.desk.proofs.orders.Order as Order-T
 use Rattle.desk.proofs.orders.Order.Laws as Order-L
-use Rattle.desk.proofs.Lend.{ref}
-use Rattle.desk.proofs.Flow.{told, frees-all, empties}
-use Rattle.desk.proofs.Front.{refronted, front-length}
-use Rattle.desk.proofs.Calls.{contractOf, calls-front-front-front, calls-plain}
+use Rattle.walks.proofs.Lend.{ref}
+use Rattle.walks.proofs.Flow.{told, frees-all, empties}
+use Rattle.walks.proofs.Front.{refronted, front-length}
+use Rattle.walks.proofs.Calls.{contractOf, calls-front-front-front, calls-plain}
 use Rattle.words.proofs.rows.smaller as words-rows-smaller-F
 use Rattle.words.proofs.rows.smaller.Symbol as words-rows-smaller-def
 use Rattle.words.proofs.rows.smaller.Symbol.{name as #words·words-rows-smaller}

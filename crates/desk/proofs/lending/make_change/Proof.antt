@@ -55,9 +55,9 @@ use Rattle.index.proofs.header.Header.Laws as Header-L
 use Rattle.desk.specs.declared.orders.Order.{Order}
 use Rattle.desk.proofs.orders.Order as Order-T
 use Rattle.desk.proofs.orders.Order.Laws as Order-L
-use Rattle.desk.proofs.Lend.{ref}
-use Rattle.desk.proofs.Flow.{told, matches, frees-all, empties}
-use Rattle.desk.proofs.Calls.{contractOf, calls-mut-mut-last, calls-plain}
+use Rattle.walks.proofs.Lend.{ref}
+use Rattle.walks.proofs.Flow.{told, matches, frees-all, empties}
+use Rattle.walks.proofs.Calls.{contractOf, calls-mut-mut-last, calls-plain}
 use Rattle.desk.proofs.lending.change_of as change-of-F
 use Rattle.desk.proofs.lending.change_of.Symbol as change-of-def
 use Rattle.desk.proofs.lending.change_of.Symbol.{name as #desk·change-of}

@@ -54,10 +54,10 @@ use Rattle.desk.proofs.orders.Order.Laws as Order-L
 use Rattle.desk.specs.declared.input.Waiting.{Waiting}
 use Rattle.desk.proofs.input.Waiting as Waiting-T
 use Rattle.desk.proofs.input.Waiting.Laws as Waiting-L
-use Rattle.desk.proofs.Lend.{ref}
-use Rattle.desk.proofs.Flow.{told, matches, frees-all, empties, big-lit}
-use Rattle.desk.proofs.Local.{repeats, lend-array, back-array}
-use Rattle.desk.proofs.Calls.{contractOf, calls-mut-mut-mut-last, calls-plain, calls-shr-mut}
+use Rattle.walks.proofs.Lend.{ref}
+use Rattle.walks.proofs.Flow.{told, matches, frees-all, empties, big-lit}
+use Rattle.walks.proofs.Local.{repeats, lend-array, back-array}
+use Rattle.walks.proofs.Calls.{contractOf, calls-mut-mut-mut-last, calls-plain, calls-shr-mut}
 use Rattle.desk.proofs.columns.read_column as read-column-F
 use Rattle.desk.proofs.columns.read_column.Symbol as read-column-def
 use Rattle.desk.proofs.columns.read_column.Symbol.{name as #desk·read-column}

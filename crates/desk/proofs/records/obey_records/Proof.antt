@@ -46,9 +46,9 @@ use Rattle.desk.proofs.orders.Order.Laws as Order-L
 use Rattle.desk.proofs.records.Task as Task-T
 use Rattle.desk.proofs.records.Task.Laws as Task-L
 use Rattle.desk.specs.declared.records.Task.the-variants.{Sets, Shows, Outside}
-use Rattle.desk.proofs.Lend.{ref}
-use Rattle.desk.proofs.Flow.{matches, frees-all, empties}
-use Rattle.desk.proofs.Calls.{contractOf, calls-mut-last, calls-plain, calls-plain-last, calls-view-last}
+use Rattle.walks.proofs.Lend.{ref}
+use Rattle.walks.proofs.Flow.{matches, frees-all, empties}
+use Rattle.walks.proofs.Calls.{contractOf, calls-mut-last, calls-plain, calls-plain-last, calls-view-last}
 use Rattle.desk.proofs.records.task_of as task-of-F
 use Rattle.desk.proofs.records.task_of.Symbol as task-of-def
 use Rattle.desk.proofs.records.task_of.Symbol.{name as #desk·task-of}

@@ -45,10 +45,10 @@ use Rattle.index.specs.Fences.{noFence}
 use Rattle.index.specs.declared.header.Fence.{Fence}
 use Rattle.index.proofs.header.Fence as Fence-T
 use Rattle.index.proofs.header.Fence.Laws as Fence-L
-use Rattle.desk.proofs.Lend.{ref}
-use Rattle.desk.proofs.Flow.{Nearer, Nearer-wf, told, while-loops, assigns-again, frees-all, below-word, next-le, next-nearer, empties, big-lit, widen-32-64}
-use Rattle.desk.proofs.Local.{repeats, lend-array, back-array}
-use Rattle.desk.proofs.Calls.{contractOf, calls-mut, calls-shr}
+use Rattle.walks.proofs.Lend.{ref}
+use Rattle.walks.proofs.Flow.{Nearer, Nearer-wf, told, while-loops, assigns-again, frees-all, below-word, next-le, next-nearer, empties, big-lit, widen-32-64}
+use Rattle.walks.proofs.Local.{repeats, lend-array, back-array}
+use Rattle.walks.proofs.Calls.{contractOf, calls-mut, calls-shr}
 use Rattle.desk.proofs.put.begin_answer as begin-answer-F
 use Rattle.desk.proofs.put.begin_answer.Symbol as begin-answer-def
 use Rattle.desk.proofs.put.begin_answer.Symbol.{name as #desk·begin-answer}

@@ -42,9 +42,9 @@ use Rattle.index.proofs.header.Fence as Fence-T
 use Rattle.desk.specs.declared.orders.Order.{Order}
 use Rattle.desk.proofs.orders.Order as Order-T
 use Rattle.desk.proofs.orders.Order.Laws as Order-L
-use Rattle.desk.proofs.Lend.{ref}
-use Rattle.desk.proofs.Flow.{tests, frees-all, empties, widen-32-64}
-use Rattle.desk.proofs.Calls.{contractOf, calls-mut, calls-plain-last}
+use Rattle.walks.proofs.Lend.{ref}
+use Rattle.walks.proofs.Flow.{tests, frees-all, empties, widen-32-64}
+use Rattle.walks.proofs.Calls.{contractOf, calls-mut, calls-plain-last}
 use Rattle.index.proofs.fences.put_fence as put-fence-F
 use Rattle.index.proofs.fences.put_fence.Symbol as put-fence-def
 use Rattle.index.proofs.fences.put_fence.Symbol.{name as #index·put-fence}

@@ -51,9 +51,9 @@ use Rattle.desk.specs.declared.orders.Request.the-variants.{Loads, Chang
 use Rattle.desk.specs.declared.input.Waiting.{Waiting}
 use Rattle.desk.proofs.input.Waiting as Waiting-T
 use Rattle.desk.proofs.input.Waiting.Laws as Waiting-L
-use Rattle.desk.proofs.Lend.{ref}
-use Rattle.desk.proofs.Flow.{told, matches, frees-all, empties}
-use Rattle.desk.proofs.Calls.{contractOf, calls-mut, calls-mut-mut, calls-mut-mut-last, calls-mut-mut-shr-last, calls-mut-shr-last, calls-shr}
+use Rattle.walks.proofs.Lend.{ref}
+use Rattle.walks.proofs.Flow.{told, matches, frees-all, empties}
+use Rattle.walks.proofs.Calls.{contractOf, calls-mut, calls-mut-mut, calls-mut-mut-last, calls-mut-mut-shr-last, calls-mut-shr-last, calls-shr}
 use Rattle.desk.proofs.orders.next_request as next-request-F
 use Rattle.desk.proofs.orders.next_request.Symbol as next-request-def
 use Rattle.desk.proofs.orders.next_request.Symbol.{name as #desk·next-request}

@@ -42,9 +42,9 @@ use Rattle.desk.proofs.serve.Console as Console-T
 use Rattle.desk.proofs.serve.Console.Laws as Console-L
 use Rattle.index.specs.declared.header.Fence.{Fence}
 use Rattle.index.proofs.header.Fence as Fence-T
-use Rattle.desk.proofs.Lend.{ref}
-use Rattle.desk.proofs.Flow.{Nearer, Nearer-wf, told, tests, while-loops, assigns-again, turn-returns, frees-all, below-word, next-le, next-nearer, empties}
-use Rattle.desk.proofs.Calls.{contractOf, calls-mut-mut-mut, calls-plain}
+use Rattle.walks.proofs.Lend.{ref}
+use Rattle.walks.proofs.Flow.{Nearer, Nearer-wf, told, tests, while-loops, assigns-again, turn-returns, frees-all, below-word, next-le, next-nearer, empties}
+use Rattle.walks.proofs.Calls.{contractOf, calls-mut-mut-mut, calls-plain}
 use Rattle.desk.proofs.serve.begin as begin-F
 use Rattle.desk.proofs.serve.begin.Symbol as begin-def
 use Rattle.desk.proofs.serve.begin.Symbol.{name as #desk·begin}

@@ -44,9 +44,9 @@ use Rattle.desk.proofs.lent.Lent as Lent-T
 use Rattle.desk.proofs.lent.Lent.Laws as Lent-L
 use Rattle.desk.proofs.input.Waiting as Waiting-T
 use Rattle.desk.proofs.input.Waiting.Laws as Waiting-L
-use Rattle.desk.proofs.Lend.{ref}
-use Rattle.desk.proofs.Flow.{told, frees-all, empties}
-use Rattle.desk.proofs.Calls.{contractOf, calls-mut, calls-mut-mut-view, calls-plain}
+use Rattle.walks.proofs.Lend.{ref}
+use Rattle.walks.proofs.Flow.{told, frees-all, empties}
+use Rattle.walks.proofs.Calls.{contractOf, calls-mut, calls-mut-mut-view, calls-plain}
 use Rattle.desk.proofs.input.look_on as look-on-F
 use Rattle.desk.proofs.input.look_on.Symbol as look-on-def
 use Rattle.desk.proofs.input.look_on.Symbol.{name as #desk·look-on}

@@ -63,9 +63,9 @@ use Rattle.index.proofs.row.Row.Laws as Row-L
 use Rattle.index.specs.declared.row.Value.{Value}
 use Rattle.index.proofs.row.Value as Value-T
 use Rattle.index.proofs.row.Value.Laws as Value-L
-use Rattle.index.proofs.Lend.{ref}
-use Rattle.index.proofs.Flow.{told, matches, frees-all}
-use Rattle.index.proofs.Calls.{contractOf, calls-plain, calls-plain-last, calls-shr-shr}
+use Rattle.walks.proofs.Lend.{ref}
+use Rattle.walks.proofs.Flow.{told, matches, frees-all}
+use Rattle.walks.proofs.Calls.{contractOf, calls-plain, calls-plain-last, calls-shr-shr}
 use Rattle.index.proofs.entry.enter_row as enter-row-F
 use Rattle.index.proofs.entry.enter_row.Symbol as enter-row-def
 use Rattle.index.proofs.entry.enter_row.Symbol.{name as #index·enter-row}

@@ -60,10 +60,10 @@ use Rattle.index.proofs.entry.Plan.Laws as Plan-L
 use Rattle.answers.proofs.Refusal as Refusal-T
 use Rattle.answers.proofs.Refusal.Laws as Refusal-L
 use Rattle.answers.specs.declared.Refusal.the-variants.{Damaged}
-use Rattle.index.proofs.Lend.{ref}
-use Rattle.index.proofs.Flow.{tests, frees-all, big-lit}
-use Rattle.index.proofs.Local.{repeats, lend-array, back-array}
-use Rattle.index.proofs.Calls.{contractOf, calls-shr-shr-mut}
+use Rattle.walks.proofs.Lend.{ref}
+use Rattle.walks.proofs.Flow.{tests, frees-all, big-lit}
+use Rattle.walks.proofs.Local.{repeats, lend-array, back-array}
+use Rattle.walks.proofs.Calls.{contractOf, calls-shr-shr-mut}
 use Rattle.index.proofs.auditing.audit_values as audit-values-F
 use Rattle.index.proofs.auditing.audit_values.Symbol as audit-values-def
 use Rattle.index.proofs.auditing.audit_values.Symbol.{name as #index·audit-values}

@@ -51,9 +51,9 @@ use Rattle.index.proofs.header.Fence as Fence-T
 use Rattle.index.specs.declared.entry.Plan.{Plan}
 use Rattle.index.proofs.entry.Plan as Plan-T
 use Rattle.index.proofs.entry.Plan.Laws as Plan-L
-use Rattle.index.proofs.Lend.{ref}
-use Rattle.index.proofs.Flow.{tests, frees-all}
-use Rattle.index.proofs.Calls.{contractOf, calls-shr-mut, calls-shr-shr}
+use Rattle.walks.proofs.Lend.{ref}
+use Rattle.walks.proofs.Flow.{tests, frees-all}
+use Rattle.walks.proofs.Calls.{contractOf, calls-shr-mut, calls-shr-shr}
 use Rattle.index.proofs.auditing.audit_lists as audit-lists-F
 use Rattle.index.proofs.auditing.audit_lists.Symbol as audit-lists-def
 use Rattle.index.proofs.auditing.audit_lists.Symbol.{name as #index·audit-lists}

@@ -71,9 +71,9 @@ use Rattle.answers.specs.declared.Refusal.the-variants.{Damaged}
 use Rattle.index.specs.declared.row.Row.{Row}
 use Rattle.index.proofs.row.Row as Row-T
 use Rattle.index.proofs.row.Row.Laws as Row-L
-use Rattle.index.proofs.Lend.{ref}
-use Rattle.index.proofs.Flow.{told, tests, matches, frees-all}
-use Rattle.index.proofs.Calls.{contractOf, calls-mut-mut, calls-plain, calls-plain-last, calls-view-view}
+use Rattle.walks.proofs.Lend.{ref}
+use Rattle.walks.proofs.Flow.{told, tests, matches, frees-all}
+use Rattle.walks.proofs.Calls.{contractOf, calls-mut-mut, calls-plain, calls-plain-last, calls-view-view}
 use Rattle.index.proofs.entry.enter_row as enter-row-F
 use Rattle.index.proofs.entry.enter_row.Symbol as enter-row-def
 use Rattle.index.proofs.entry.enter_row.Symbol.{name as #index·enter-row}

@@ -68,9 +68,9 @@ use Rattle.answers.specs.declared.Refusal.{Refusal}
 use Rattle.answers.proofs.Refusal as Refusal-T
 use Rattle.answers.proofs.Refusal.Laws as Refusal-L
 use Rattle.answers.specs.declared.Refusal.the-variants.{Damaged}
-use Rattle.index.proofs.Lend.{ref}
-use Rattle.index.proofs.Flow.{told, matches, frees-all}
-use Rattle.index.proofs.Calls.{contractOf, calls-mut, calls-plain, calls-plain-last, calls-view-mut}
+use Rattle.walks.proofs.Lend.{ref}
+use Rattle.walks.proofs.Flow.{told, matches, frees-all}
+use Rattle.walks.proofs.Calls.{contractOf, calls-mut, calls-plain, calls-plain-last, calls-view-mut}
 use Rattle.index.proofs.entry.enter_value as enter-value-F
 use Rattle.index.proofs.entry.enter_value.Symbol as enter-value-def
 use Rattle.index.proofs.entry.enter_value.Symbol.{name as #index·enter-value}

@@ -51,9 +51,9 @@ use Rattle.index.specs.declared.entry.Plan.{Plan}
 use Rattle.index.proofs.entry.Plan as Plan-T
 use Rattle.index.proofs.entry.Plan.Laws as Plan-L
 use Rattle.answers.specs.declared.Refusal.{Refusal}
-use Rattle.index.proofs.Lend.{ref}
-use Rattle.index.proofs.Flow.{matches, frees-all}
-use Rattle.index.proofs.Calls.{contractOf, calls-mut, calls-view-mut}
+use Rattle.walks.proofs.Lend.{ref}
+use Rattle.walks.proofs.Flow.{matches, frees-all}
+use Rattle.walks.proofs.Calls.{contractOf, calls-mut, calls-view-mut}
 use Rattle.index.proofs.alter.move_row as move-row-F
 use Rattle.index.proofs.alter.move_row.Symbol as move-row-def
 use Rattle.index.proofs.alter.move_row.Symbol.{name as #index·move-row}

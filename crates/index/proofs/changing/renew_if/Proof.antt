@@ -44,9 +44,9 @@ use Rattle.index.proofs.header.Fence as Fence-T
 use Rattle.index.specs.declared.entry.Plan.{Plan}
 use Rattle.index.proofs.entry.Plan as Plan-T
 use Rattle.index.proofs.entry.Plan.Laws as Plan-L
-use Rattle.index.proofs.Lend.{ref}
-use Rattle.index.proofs.Flow.{holds, fails, tests, frees-all}
-use Rattle.index.proofs.Calls.{contractOf, calls-shr-mut-last}
+use Rattle.walks.proofs.Lend.{ref}
+use Rattle.walks.proofs.Flow.{holds, fails, tests, frees-all}
+use Rattle.walks.proofs.Calls.{contractOf, calls-shr-mut-last}
 use Rattle.index.proofs.fences.renew as renew-F
 use Rattle.index.proofs.fences.renew.Symbol as renew-def
 use Rattle.index.proofs.fences.renew.Symbol.{name as #index·renew}

@@ -61,9 +61,9 @@ use Rattle.index.proofs.entry.Plan.Laws as Plan-L
 use Rattle.answers.specs.declared.Refusal.{Refusal}
 use Rattle.answers.proofs.Refusal as Refusal-T
 use Rattle.answers.proofs.Refusal.Laws as Refusal-L
-use Rattle.index.proofs.Lend.{ref}
-use Rattle.index.proofs.Flow.{told-enum, matches, frees-all}
-use Rattle.index.proofs.Calls.{contractOf, calls-plain, calls-shr-shr-mut-last}
+use Rattle.walks.proofs.Lend.{ref}
+use Rattle.walks.proofs.Flow.{told-enum, matches, frees-all}
+use Rattle.walks.proofs.Calls.{contractOf, calls-plain, calls-shr-shr-mut-last}
 use Rattle.index.proofs.entry.enter_index as enter-index-F
 use Rattle.index.proofs.entry.enter_index.Symbol as enter-index-def
 use Rattle.index.proofs.entry.enter_index.Symbol.{name as #index·enter-index}

@@ -62,10 +62,10 @@ use Rattle.index.proofs.entry.Plan.Laws as Plan-L
 use Rattle.answers.proofs.Refusal as Refusal-T
 use Rattle.answers.proofs.Refusal.Laws as Refusal-L
 use Rattle.answers.specs.declared.Refusal.the-variants.{Damaged}
-use Rattle.index.proofs.Lend.{ref}
-use Rattle.index.proofs.Flow.{told-enum, tests, frees-all, big-lit}
-use Rattle.index.proofs.Local.{repeats, lend-array, back-array}
-use Rattle.index.proofs.Calls.{contractOf, calls-shr-shr-mut, calls-view-mut}
+use Rattle.walks.proofs.Lend.{ref}
+use Rattle.walks.proofs.Flow.{told-enum, tests, frees-all, big-lit}
+use Rattle.walks.proofs.Local.{repeats, lend-array, back-array}
+use Rattle.walks.proofs.Calls.{contractOf, calls-shr-shr-mut, calls-view-mut}
 use Rattle.index.proofs.dumping.mark_values as mark-values-F
 use Rattle.index.proofs.dumping.mark_values.Symbol as mark-values-def
 use Rattle.index.proofs.dumping.mark_values.Symbol.{name as #index·mark-values}

@@ -56,9 +56,9 @@ use Rattle.index.proofs.header.Header.Laws as Header-L
 use Rattle.index.specs.declared.entry.Plan.{Plan}
 use Rattle.index.proofs.entry.Plan as Plan-T
 use Rattle.index.proofs.entry.Plan.Laws as Plan-L
-use Rattle.index.proofs.Lend.{ref}
-use Rattle.index.proofs.Flow.{Nearer, Nearer-wf, told, tests, while-loops, assigns-again, turn-returns, frees-all, below-word, next-le, next-nearer, widen-32-64}
-use Rattle.index.proofs.Calls.{contractOf, calls-plain, calls-shr, calls-shr-mut}
+use Rattle.walks.proofs.Lend.{ref}
+use Rattle.walks.proofs.Flow.{Nearer, Nearer-wf, told, tests, while-loops, assigns-again, turn-returns, frees-all, below-word, next-le, next-nearer, widen-32-64}
+use Rattle.walks.proofs.Calls.{contractOf, calls-plain, calls-shr, calls-shr-mut}
 use Rattle.index.proofs.dumping.fences_for as fences-for-F
 use Rattle.index.proofs.dumping.fences_for.Symbol as fences-for-def
 use Rattle.index.proofs.dumping.fences_for.Symbol.{name as #index·fences-for}

@@ -52,9 +52,9 @@ use Rattle.index.proofs.header.Header.Laws as Header-L
 use Rattle.index.specs.declared.entry.Plan.{Plan}
 use Rattle.index.proofs.entry.Plan as Plan-T
 use Rattle.index.proofs.entry.Plan.Laws as Plan-L
-use Rattle.index.proofs.Lend.{ref}
-use Rattle.index.proofs.Flow.{Nearer, Nearer-wf, tests, while-loops, assigns-again, turn-returns, frees-all, below-word, next-le, next-nearer}
-use Rattle.index.proofs.Calls.{contractOf, calls-shr-shr-mut}
+use Rattle.walks.proofs.Lend.{ref}
+use Rattle.walks.proofs.Flow.{Nearer, Nearer-wf, tests, while-loops, assigns-again, turn-returns, frees-all, below-word, next-le, next-nearer}
+use Rattle.walks.proofs.Calls.{contractOf, calls-shr-shr-mut}
 use Rattle.index.proofs.dumping.mark_value as mark-value-F
 use Rattle.index.proofs.dumping.mark_value.Symbol as mark-value-def
 use Rattle.index.proofs.dumping.mark_value.Symbol.{name as #index·mark-value}

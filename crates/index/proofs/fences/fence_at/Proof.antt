@@ -41,7 +41,7 @@ use denote.Triple.Walked.{says, Stays, stay-dropped, walkOf, Walks, ends-at, wal
 use Rattle.index.specs.declared.header.Fence.{Fence}
 use Rattle.index.proofs.header.Fence as T
 use Rattle.index.proofs.header.Fence.Laws as T′
-use Rattle.index.proofs.Bytes.{in-bytes}
+use Rattle.walks.proofs.Bytes.{in-bytes}
 use Rattle.index.proofs.fences.fence_at.Key.{name as #index·fence-at}
 use Rattle.index.proofs.fences.fence_at as fence-at
 use Rattle.index.proofs.fences.fence_at.Statement as stated

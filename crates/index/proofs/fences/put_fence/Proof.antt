@@ -40,7 +40,7 @@ use denote.Triple.Walked.{says, needs, Stays, stay-slice, stay-none, walkOf, Wal
 use Rattle.index.specs.declared.header.Fence.{Fence}
 use Rattle.index.proofs.header.Fence as T
 use Rattle.index.proofs.header.Fence.Laws as T′
-use Rattle.index.proofs.Bytes.{in-bytes}
+use Rattle.walks.proofs.Bytes.{in-bytes}
 use Rattle.index.proofs.fences.put_fence.Key.{name as #index·put-fence}
 use Rattle.index.proofs.fences.put_fence as put-fence
 use Rattle.index.proofs.fences.put_fence.Statement as stated

@@ -53,9 +53,9 @@ use Rattle.index.proofs.header.Fence as Fence-T
 use Rattle.index.specs.declared.entry.Plan.{Plan}
 use Rattle.index.proofs.entry.Plan as Plan-T
 use Rattle.index.proofs.entry.Plan.Laws as Plan-L
-use Rattle.index.proofs.Lend.{ref}
-use Rattle.index.proofs.Flow.{Nearer, Nearer-wf, told, while-loops, assigns-again, frees-all, below-word, next-le, next-nearer, widen-32-64}
-use Rattle.index.proofs.Calls.{contractOf, calls-mut, calls-plain, calls-shr}
+use Rattle.walks.proofs.Lend.{ref}
+use Rattle.walks.proofs.Flow.{Nearer, Nearer-wf, told, while-loops, assigns-again, frees-all, below-word, next-le, next-nearer, widen-32-64}
+use Rattle.walks.proofs.Calls.{contractOf, calls-mut, calls-plain, calls-shr}
 use Rattle.index.proofs.fences.first_word as first-word-F
 use Rattle.index.proofs.fences.first_word.Symbol as first-word-def
 use Rattle.index.proofs.fences.first_word.Symbol.{name as #index·first-word}

@@ -60,9 +60,9 @@ use Rattle.index.proofs.entry.Plan.Laws as Plan-L
 use Rattle.answers.specs.declared.Refusal.{Refusal}
 use Rattle.answers.proofs.Refusal as Refusal-T
 use Rattle.answers.proofs.Refusal.Laws as Refusal-L
-use Rattle.index.proofs.Lend.{ref}
-use Rattle.index.proofs.Flow.{told, matches, frees-all}
-use Rattle.index.proofs.Calls.{contractOf, calls-mut-mut-shr, calls-plain, calls-plain-last, calls-shr}
+use Rattle.walks.proofs.Lend.{ref}
+use Rattle.walks.proofs.Flow.{told, matches, frees-all}
+use Rattle.walks.proofs.Calls.{contractOf, calls-mut-mut-shr, calls-plain, calls-plain-last, calls-shr}
 use Rattle.index.proofs.loading.enter_load as enter-load-F
 use Rattle.index.proofs.loading.enter_load.Symbol as enter-load-def
 use Rattle.index.proofs.loading.enter_load.Symbol.{name as #index·enter-load}

@@ -54,9 +54,9 @@ use Rattle.index.proofs.header.Header.Laws as Header-L
 use Rattle.index.specs.declared.entry.Plan.{Plan}
 use Rattle.index.proofs.entry.Plan as Plan-T
 use Rattle.index.proofs.entry.Plan.Laws as Plan-L
-use Rattle.index.proofs.Lend.{ref}
-use Rattle.index.proofs.Flow.{Nearer, Nearer-wf, while-loops, assigns-again, frees-all, below-word, next-le, next-nearer}
-use Rattle.index.proofs.Calls.{contractOf, calls-mut-shr, calls-view-mut}
+use Rattle.walks.proofs.Lend.{ref}
+use Rattle.walks.proofs.Flow.{Nearer, Nearer-wf, while-loops, assigns-again, frees-all, below-word, next-le, next-nearer}
+use Rattle.walks.proofs.Calls.{contractOf, calls-mut-shr, calls-view-mut}
 use Rattle.index.proofs.loading.load_value as load-value-F
 use Rattle.index.proofs.loading.load_value.Symbol as load-value-def
 use Rattle.index.proofs.loading.load_value.Symbol.{name as #index·load-value}

@@ -58,9 +58,9 @@ use Rattle.index.proofs.entry.Plan.Laws as Plan-L
 use Rattle.index.specs.declared.row.Row.{Row}
 use Rattle.index.proofs.row.Row as Row-T
 use Rattle.index.proofs.row.Row.Laws as Row-L
-use Rattle.index.proofs.Lend.{ref}
-use Rattle.index.proofs.Flow.{Nearer, Nearer-wf, told, while-loops, assigns-again, frees-all, below-word, next-le, next-nearer, widen-32-64}
-use Rattle.index.proofs.Calls.{contractOf, calls-plain, calls-shr}
+use Rattle.walks.proofs.Lend.{ref}
+use Rattle.walks.proofs.Flow.{Nearer, Nearer-wf, told, while-loops, assigns-again, frees-all, below-word, next-le, next-nearer, widen-32-64}
+use Rattle.walks.proofs.Calls.{contractOf, calls-plain, calls-shr}
 use Rattle.index.proofs.reading.fence_of as fence-of-F
 use Rattle.index.proofs.reading.fence_of.Symbol as fence-of-def
 use Rattle.index.proofs.reading.fence_of.Symbol.{name as #index·fence-of}

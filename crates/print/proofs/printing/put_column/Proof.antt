@@ -58,10 +58,10 @@ use Rattle.index.proofs.header.Fence as Fence-T
 use Rattle.index.proofs.header.Fence.Laws as Fence-L
 use Rattle.index.proofs.header.Header as Header-T
 use Rattle.index.proofs.header.Header.Laws as Header-L
-use Rattle.print.proofs.Lend.{ref}
-use Rattle.print.proofs.Flow.{told, tests, frees-all, big-lit}
-use Rattle.print.proofs.Local.{repeats, lend-array, back-array}
-use Rattle.print.proofs.Calls.{contractOf, calls-mut, calls-mut-mut-shr, calls-plain, calls-view-view-mut-mut}
+use Rattle.walks.proofs.Lend.{ref}
+use Rattle.walks.proofs.Flow.{told, tests, frees-all, big-lit}
+use Rattle.walks.proofs.Local.{repeats, lend-array, back-array}
+use Rattle.walks.proofs.Calls.{contractOf, calls-mut, calls-mut-mut-shr, calls-plain, calls-view-view-mut-mut}
 use Rattle.index.proofs.loading.load as load-F
 use Rattle.index.proofs.loading.load.Symbol as load-def
 use Rattle.index.proofs.loading.load.Symbol.{name as #index·load}

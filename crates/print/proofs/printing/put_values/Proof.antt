@@ -55,9 +55,9 @@ use Rattle.index.proofs.header.Fence as Fence-T
 use Rattle.index.specs.declared.header.Header.{Header}
 use Rattle.index.proofs.header.Header as Header-T
 use Rattle.index.proofs.header.Header.Laws as Header-L
-use Rattle.print.proofs.Lend.{ref}
-use Rattle.print.proofs.Flow.{Nearer, Nearer-wf, told-enum, while-loops, assigns-again, frees-all, below-word, next-le, next-nearer}
-use Rattle.print.proofs.Calls.{contractOf, calls-shr-shr-mut, calls-view-mut}
+use Rattle.walks.proofs.Lend.{ref}
+use Rattle.walks.proofs.Flow.{Nearer, Nearer-wf, told-enum, while-loops, assigns-again, frees-all, below-word, next-le, next-nearer}
+use Rattle.walks.proofs.Calls.{contractOf, calls-shr-shr-mut, calls-view-mut}
 use Rattle.index.proofs.answering.query as query-F
 use Rattle.index.proofs.answering.query.Symbol as query-def
 use Rattle.index.proofs.answering.query.Symbol.{name as #index·query}

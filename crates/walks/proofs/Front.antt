@@ -1,4 +1,4 @@
--- The first records of a slice, `&mut s[..m]`, that a walk lends for one call, and has back after it. It says nothing of the crate, and is copied as it stands.
+-- The first records of a slice, `&mut s[..m]`, that a walk lends for one call, and has back after it. The file is written by walkgen.
 --     front                    the first m of a list
 --     refronted                the list with others in their place
 --     front-size, front-length     their lengths
@@ -31,7 +31,7 @@ use denote.Index.{row, whole-out, whole-in, opens-slice, closes-slice}
 use denote.Steps.{peeks}
 use borrow.Table.Elements.{at, cut-app, join-app, same-len}
 use borrow.Rule.Array.Share.{room-take}
-use Rattle.desk.proofs.Lend.{ref}
+use Rattle.walks.proofs.Lend.{ref}
 
 abbrev pub front : {X : Type 0} → ℕ → List X → List X
 front m ys = take m ys

@@ -1,4 +1,4 @@
--- A local array of a walk: from the statement that makes it up to a `return` it is a slice that is lent out of the local, with a token, as a `&mut [R]` parameter is. It says nothing of the crate, and is copied as it stands.
+-- A local array of a walk: from the statement that makes it up to a `return` it is a slice that is lent out of the local, with a token, as a `&mut [R]` parameter is. The file is written by walkgen.
 --     repeats        `[x; n]` is an array of n times x
 --     lend-array     the local that holds `[x; n]` is lent for a lifetime that is made for it: [the local; …] becomes [token; slice; what the local keeps; …]
 --     back-array     the way back, with the list that the slice has then; the local is empty
@@ -31,7 +31,7 @@ use denote.Slice.{sliceVal, MutSlice, Room, finally, res-finally, codedHoleys, h
 use denote.Lend.{Held, lends-slice, slice-back}
 use denote.Steps.{owned, only}
 use denote.Struct.Steps.{spelt}
-use Rattle.print.proofs.Lend.{ref}
+use Rattle.walks.proofs.Lend.{ref}
 
 module _ (R : RattleType) where
   each-repeats : (n : ℕ) (x : R .Denot) (u : Val) → Is R x (u ∷ []) → shadow (each (R .Denot) (R .own) (replicate n x) (replicate n u))

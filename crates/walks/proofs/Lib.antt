@@ -1,0 +1,6 @@
+pub mod Bytes
+pub mod Calls
+pub mod Flow
+pub mod Front
+pub mod Lend
+pub mod Local
