@@ -22,10 +22,10 @@ use index::changing::insert;
 use index::changing::merge;
 use index::changing::update;
 use index::dumping::dump;
-use index::header::Changed;
-use index::header::Fence;
-use index::header::Header;
 use index::loading::load;
+use steps::header::Changed;
+use steps::header::Fence;
+use steps::header::Header;
 use words::rows::smaller;
 
 // The calls that change rows.

@@ -2,8 +2,8 @@
 use crate::orders::Order;
 use crate::say::say_text;
 use answers::Answer;
-use index::header::Changed;
-use index::header::Header;
+use steps::header::Changed;
+use steps::header::Header;
 
 // The longest output that is lent: a word or a byte for each row.
 pub const ROOM: usize = 126976;

@@ -13,10 +13,10 @@ mod say;
 mod serve;
 mod verbs;
 
-use index::header::Fence;
 use lent::FENCES;
 use lent::WORDS;
 use serve::serve;
+use steps::header::Fence;
 
 // The console's memory.
 fn with_memory(input: &mut [u8]) {

@@ -7,7 +7,7 @@ use crate::say::say_text;
 use crate::verbs::Verb;
 use index::fences::fence_at;
 use index::fences::put_fence;
-use index::header::Fence;
+use steps::header::Fence;
 
 // What is to be done with the records.
 pub enum Task {

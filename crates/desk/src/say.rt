@@ -9,8 +9,8 @@ use crate::put::put_words;
 use crate::put::wide;
 use answers::Answer;
 use answers::Refusal;
-use index::row::State;
-use index::row::Value;
+use steps::row::State;
+use steps::row::Value;
 
 // How much of an answer is written out at a time.
 const BUFFER: usize = 4096;

@@ -12,7 +12,7 @@ use crate::memory::obey_other;
 use crate::orders::Request;
 use crate::orders::next_request;
 use crate::records::obey_records;
-use index::header::Fence;
+use steps::header::Fence;
 
 // What the console keeps from one turn to the next.
 pub struct Console {

@@ -21,10 +21,10 @@ use Rattle.blocks.specs.Whole.{wholeLists}
 use Rattle.blocks.specs.declared.shape.Shape.{Shape}
 use Rattle.blocks.proofs.Columns.{row-held, row-past, decode-listFor, canonical-listFor}
 use Rattle.blocks.proofs.WholeLists.{length-current, decode-current}
-use Rattle.index.specs.Memory.{Memory, shapeOf, rowsIn, blockAt}
+use Rattle.steps.specs.Memory.{Memory, shapeOf, rowsIn, blockAt}
 use Rattle.index.specs.Soundness.{Sound}
-use Rattle.index.specs.declared.header.Header.{Header}
-use Rattle.index.proofs.Headers.{Within, within}
+use Rattle.steps.specs.declared.header.Header.{Header}
+use Rattle.steps.proofs.Headers.{Within, within}
 use Rattle.index.proofs.Holders.{NoHolder}
 use Rattle.history.specs.Calls.{Index, indexOf}
 use Rattle.history.specs.Plain.{Plain, headerOf, byteAt}

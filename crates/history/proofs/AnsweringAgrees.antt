@@ -11,12 +11,12 @@ use lib.Seq.{take-length, take-suc}
 use borrow.Author.Tests.{leb-false}
 use Rattle.answers.specs.Outcome.{_when_, Outcome, outcome}
 use Rattle.answers.specs.declared.Refusal.the-variants.{OutSmall}
-use Rattle.index.specs.Memory.{Memory, every}
-use Rattle.index.specs.Reading.{rowOf, isDamaged}
+use Rattle.steps.specs.Memory.{Memory, every}
+use Rattle.steps.specs.Reading.{rowOf, isDamaged}
 use Rattle.index.specs.Soundness.{Sound}
 use Rattle.index.specs.Calls.{whole, queryList, queryOutcome, byteOf, bytesOf, dumpOutcome, auditOutcome}
-use Rattle.index.specs.declared.header.Header.{Header}
-use Rattle.index.proofs.Altering.{either}
+use Rattle.steps.specs.declared.header.Header.{Header}
+use Rattle.steps.proofs.Altering.{either}
 use Rattle.index.proofs.Every.{holds-every}
 use Rattle.history.specs.Calls.{Call, Query, Dump, Audit, Reply, answering, obey, replied}
 use Rattle.history.specs.Plain.{Plain, headerOf, byteAt, PlainReply, writing, plainList, plainBadValue, plainly}

@@ -13,8 +13,8 @@ use Rattle.blocks.specs.Whole.{updateOnes, wholeLists}
 use Rattle.blocks.specs.Change.{merged, turnedList, turned, mergeDue, flipped}
 use Rattle.blocks.specs.Column.{listFor, loaded}
 use Rattle.blocks.specs.Fences.{fenceAt}
-use Rattle.index.specs.Memory.{limits, withinLimits, lent, blockAt, rowsIn}
-use Rattle.index.specs.Reading.{fenceFor, readIn, rowOf, valueOf}
+use Rattle.steps.specs.Memory.{limits, withinLimits, lent, blockAt, rowsIn}
+use Rattle.steps.specs.Reading.{fenceFor, readIn, rowOf, valueOf}
 use Rattle.index.specs.Calls.{whole, withBlock, renewed, flippedIn, loadAfter, queryList, queryOutcome, valueOutcome, insertAfter, deleteAfter, updateAfter}
 use Rattle.history.specs.Cases.{Marked}
 

@@ -12,12 +12,12 @@ use Rattle.blocks.specs.declared.shape.Shape.{Shape}
 use Rattle.blocks.proofs.Blocks.{block-written, block-apart}
 use Rattle.blocks.proofs.Parts.{getD-part, length-write, part-write, part-apart}
 use Rattle.blocks.proofs.Sizes.{places-apart}
-use Rattle.index.specs.Memory.{Memory, shapeOf, blockAt, fencesAt}
-use Rattle.index.specs.Fences.{noFence, fencesFrom}
+use Rattle.steps.specs.Memory.{Memory, shapeOf, blockAt, fencesAt}
+use Rattle.steps.specs.Fences.{noFence, fencesFrom}
 use Rattle.index.specs.Soundness.{Holds, FencesRight}
 use Rattle.index.specs.Calls.{withBlock, renewed}
-use Rattle.index.specs.declared.header.Header.{Header}
-use Rattle.index.specs.declared.header.Fence.{Fence}
+use Rattle.steps.specs.declared.header.Header.{Header}
+use Rattle.steps.specs.declared.header.Fence.{Fence}
 
 -- the memory after differs from that before in one value alone
 pub record OnlyValue (header : Header) (value : ℕ) (before after : Memory) : Type 0 where

@@ -15,10 +15,10 @@ use denote.Ref.{RefT, now}
 use denote.Triple.Clauses.{AtExit}
 use denote.Triple.Entry.{Args, Res}
 use Rattle.answers.specs.declared.Answer.{Answer}
-use Rattle.index.specs.Memory.{memoryOf}
-use Rattle.index.specs.declared.header.Changed.{Changed}
-use Rattle.index.specs.declared.header.Fence.{Fence}
-use Rattle.index.specs.declared.header.Header.{Header}
+use Rattle.steps.specs.Memory.{memoryOf}
+use Rattle.steps.specs.declared.header.Changed.{Changed}
+use Rattle.steps.specs.declared.header.Fence.{Fence}
+use Rattle.steps.specs.declared.header.Header.{Header}
 use Rattle.index.proofs.answering.query as query
 use Rattle.index.proofs.answering.value as value
 use Rattle.index.proofs.auditing.audit as audit

@@ -7,7 +7,7 @@ use native.Mathlib.Omega.{arith}
 use lib.Dec.{eqb}
 use lib.ListN.{length}
 use borrow.Author.Tests.{eqb-true, eq-eqb}
-use Rattle.index.specs.Memory.{Memory}
+use Rattle.steps.specs.Memory.{Memory}
 use Rattle.history.specs.Calls.{Index, Said}
 use Rattle.history.specs.Plain.{Plain, headerOf, byteAt, plainLoaded, plainRun}
 use Rattle.history.specs.History.{Agrees, Always}

@@ -8,12 +8,12 @@ use lib.ListN.{length, set}
 use borrow.Author.Tests.{leb-false}
 use Rattle.answers.specs.Outcome.{_when_}
 use Rattle.answers.specs.declared.Refusal.the-variants.{Damaged, Gone}
-use Rattle.index.specs.Memory.{Memory}
-use Rattle.index.specs.Reading.{rowOf, isDamaged, isDeleted}
-use Rattle.index.specs.Outcomes.{made}
+use Rattle.steps.specs.Memory.{Memory}
+use Rattle.steps.specs.Reading.{rowOf, isDamaged, isDeleted}
+use Rattle.steps.specs.Outcomes.{made}
 use Rattle.index.specs.Soundness.{Sound}
 use Rattle.index.specs.Calls.{whole, flippedIn, oldValue, deleteAfter}
-use Rattle.index.specs.declared.header.Header.{Header}
+use Rattle.steps.specs.declared.header.Header.{Header}
 use Rattle.history.specs.Calls.{Delete}
 use Rattle.history.specs.Plain.{Plain, headerOf, withColumn, byteAt, becoming, plainNoRow, plainGone, plainly}
 use Rattle.history.specs.History.{Agrees, Good}

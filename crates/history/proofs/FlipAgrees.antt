@@ -10,11 +10,11 @@ use lib.ListN.{length, set, length-append, length-set}
 use lib.Seq.{getD-set-same, getD-set-other}
 use borrow.Author.Tests.{ne-eqb}
 use Rattle.words.specs.Rows.{rowAt}
-use Rattle.index.specs.Memory.{Memory, rowsIn}
+use Rattle.steps.specs.Memory.{Memory, rowsIn}
 use Rattle.index.specs.Soundness.{Sound}
-use Rattle.index.specs.Entry.{validColumn}
-use Rattle.index.specs.Calls.{flippedIn, grown}
-use Rattle.index.specs.declared.header.Header.{Header}
+use Rattle.steps.specs.Entry.{validColumn, grown}
+use Rattle.index.specs.Calls.{flippedIn}
+use Rattle.steps.specs.declared.header.Header.{Header}
 use Rattle.history.specs.Calls.{indexOf}
 use Rattle.history.specs.Plain.{Plain, headerOf, withColumn, byteAt}
 use Rattle.history.specs.History.{Agrees}

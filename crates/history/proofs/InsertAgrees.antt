@@ -9,12 +9,13 @@ use lib.ListN.{length}
 use borrow.Author.Tests.{leb-false, eq-eqb}
 use Rattle.answers.specs.Outcome.{_when_}
 use Rattle.answers.specs.declared.Refusal.the-variants.{Full, Damaged}
-use Rattle.index.specs.Memory.{Memory}
-use Rattle.index.specs.Reading.{rowOf, isFree}
-use Rattle.index.specs.Outcomes.{made}
+use Rattle.steps.specs.Entry.{grown}
+use Rattle.steps.specs.Memory.{Memory}
+use Rattle.steps.specs.Reading.{rowOf, isFree}
+use Rattle.steps.specs.Outcomes.{made}
 use Rattle.index.specs.Soundness.{Sound}
-use Rattle.index.specs.Calls.{whole, flippedIn, grown, insertAfter}
-use Rattle.index.specs.declared.header.Header.{Header}
+use Rattle.index.specs.Calls.{whole, flippedIn, insertAfter}
+use Rattle.steps.specs.declared.header.Header.{Header}
 use Rattle.history.specs.Calls.{Insert}
 use Rattle.history.specs.Plain.{Plain, headerOf, withColumn, becoming, plainBadValue, plainly}
 use Rattle.history.specs.History.{Agrees, Good}

@@ -4,10 +4,11 @@ use mathlib.Core.Path.{_≡_, refl, ap}
 use mathlib.Core.List.{List, []}
 use Prim.Native.Nat.{ℕ}
 use lib.ListN.{length}
-use Rattle.index.specs.Memory.{Memory}
-use Rattle.index.specs.Outcomes.{After, made}
-use Rattle.index.specs.Calls.{loadedIn, noHeader, loadHeader, loadChecks, loadAfter}
-use Rattle.index.specs.declared.header.Header.{Header}
+use Rattle.steps.specs.Entry.{noHeader}
+use Rattle.steps.specs.Memory.{Memory}
+use Rattle.steps.specs.Outcomes.{After, made}
+use Rattle.index.specs.Calls.{loadedIn, loadHeader, loadChecks, loadAfter}
+use Rattle.steps.specs.declared.header.Header.{Header}
 use Rattle.history.specs.Calls.{Load}
 use Rattle.history.specs.Plain.{Plain, becoming, refusing, plainLoadChecks, plainLoaded}
 use Rattle.history.specs.History.{Agrees, indexAfter, Good}

@@ -9,9 +9,9 @@ use Rattle.answers.specs.Numbers.{numberOf}
 use Rattle.answers.specs.Outcome.{Check, _when_}
 use Rattle.answers.specs.declared.Refusal.{Refusal}
 use Rattle.answers.proofs.Accepted.{Passes, no-zero}
-use Rattle.index.specs.Memory.{Memory}
-use Rattle.index.specs.Outcomes.{After, made, change}
-use Rattle.index.specs.declared.header.Header.{Header}
+use Rattle.steps.specs.Memory.{Memory}
+use Rattle.steps.specs.Outcomes.{After, made, change}
+use Rattle.steps.specs.declared.header.Header.{Header}
 use Rattle.history.specs.Calls.{Call, Index, indexOf, Reply, counted, changing, obey, lastAccepted, replied}
 use Rattle.history.specs.Plain.{Plain, PlainReply, numbered, becoming, refusing, plainly}
 use Rattle.history.specs.History.{Agrees, Good}

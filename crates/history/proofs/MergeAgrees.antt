@@ -6,11 +6,11 @@ use Prim.Native.Nat.{ℕ, _<_}
 use borrow.Author.Tests.{leb-false}
 use Rattle.answers.specs.Outcome.{_when_}
 use Rattle.answers.specs.declared.Refusal.the-variants.{Damaged}
-use Rattle.index.specs.Memory.{Memory}
-use Rattle.index.specs.Outcomes.{made}
+use Rattle.steps.specs.Memory.{Memory}
+use Rattle.steps.specs.Outcomes.{made}
 use Rattle.index.specs.Soundness.{Sound}
 use Rattle.index.specs.Calls.{whole, mergedIn, mergeAfter}
-use Rattle.index.specs.declared.header.Header.{Header}
+use Rattle.steps.specs.declared.header.Header.{Header}
 use Rattle.history.specs.Calls.{Merge, indexOf}
 use Rattle.history.specs.Plain.{Plain, headerOf, becoming, plainBadValue, plainly}
 use Rattle.history.specs.History.{Agrees, Good}

@@ -15,10 +15,10 @@ use Rattle.words.specs.Words.{decode}
 use Rattle.lists.specs.Combine.{exclusive, answer}
 use Rattle.blocks.specs.Block.{valueList, updateList}
 use Rattle.blocks.proofs.WholeLists.{rowAt-current, decode-current}
-use Rattle.index.specs.Memory.{Memory, withinLimits, shapeOf, blockAt, rowsIn}
+use Rattle.steps.specs.Memory.{Memory, withinLimits, shapeOf, blockAt, rowsIn}
 use Rattle.index.specs.Calls.{whole, queryList, queryChecks, queryOutcome}
-use Rattle.index.specs.declared.header.Header.{Header}
-use Rattle.index.proofs.Headers.{within, within-limits}
+use Rattle.steps.specs.declared.header.Header.{Header}
+use Rattle.steps.proofs.Headers.{within, within-limits}
 use Rattle.history.specs.Corollaries.{QueryDiffers}
 
 -- two bits differ exactly where the answer for them is 1

@@ -7,11 +7,12 @@ use native.Mathlib.Omega.{arith}
 use lib.Dec.{eqb}
 use Rattle.answers.specs.Outcome.{Check, _when_, outcome}
 use Rattle.answers.specs.declared.Refusal.the-variants.{Damaged}
-use Rattle.index.specs.Memory.{Memory, limits, withinLimits, isSound}
-use Rattle.index.specs.Outcomes.{After, made, change}
-use Rattle.index.specs.Calls.{badHeader, small, loadedIn, noHeader, loadHeader, loadChecks, loadAfter, queryList, queryChecks, queryOutcome, valueOutcome, mergedIn, mergeChecks, mergeAfter}
-use Rattle.index.specs.Calls.{auditOutcome, bytesOf, dumpChecks, dumpOutcome, grown, flippedIn, insertChecks, insertAfter, oldValue, deleteChecks, deleteAfter, updateChecks, updateAfter}
-use Rattle.index.specs.declared.header.Header.{Header}
+use Rattle.steps.specs.Entry.{noHeader, grown}
+use Rattle.steps.specs.Memory.{Memory, limits, withinLimits, isSound}
+use Rattle.steps.specs.Outcomes.{After, made, change}
+use Rattle.index.specs.Calls.{badHeader, small, loadedIn, loadHeader, loadChecks, loadAfter, queryList, queryChecks, queryOutcome, valueOutcome, mergedIn, mergeChecks, mergeAfter}
+use Rattle.index.specs.Calls.{auditOutcome, bytesOf, dumpChecks, dumpOutcome, flippedIn, insertChecks, insertAfter, oldValue, deleteChecks, deleteAfter, updateChecks, updateAfter}
+use Rattle.steps.specs.declared.header.Header.{Header}
 use Rattle.history.specs.Calls.{Call, Load, Query, Value, Insert, Update, Delete, Merge, Dump, Audit, Index, indexOf, obey, replied}
 use Rattle.history.specs.Corollaries.{outputOf, isLoad, Unchanged, RefusedUnchanged, ZerosRefused}
 use Rattle.history.proofs.Matching.{last-stays}

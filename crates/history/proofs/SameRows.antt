@@ -9,17 +9,17 @@ use lib.ListN.{getD}
 use borrow.Author.Tests.{leb-false}
 use Rattle.answers.specs.declared.Refusal.the-variants.{Damaged}
 use Rattle.blocks.specs.declared.read.Reading.the-variants.{Group}
-use Rattle.index.specs.Memory.{Memory, rowsIn, every}
-use Rattle.index.specs.Reading.{rowStep, readRow, rowOf, isDamaged, isDeleted, refusedValue, valueOf, ValuePaper, statePaper, valuePaper}
+use Rattle.steps.specs.Memory.{Memory, rowsIn, every}
+use Rattle.steps.specs.Reading.{rowStep, readRow, rowOf, isDamaged, isDeleted, refusedValue, valueOf, ValuePaper, statePaper, valuePaper}
 use Rattle.index.specs.Soundness.{Sound}
 use Rattle.index.specs.Calls.{whole, queryList, queryOutcome, valueOutcome, byteOf, bytesOf, dumpOutcome}
-use Rattle.index.specs.declared.header.Header.{Header}
-use Rattle.index.specs.declared.row.Row.{Row}
-use Rattle.index.specs.declared.row.State.{State}
-use Rattle.index.specs.declared.row.State.the-variants.{Live, Deleted, Refused}
-use Rattle.index.proofs.Altering.{either}
+use Rattle.steps.specs.declared.header.Header.{Header}
+use Rattle.steps.specs.declared.row.Row.{Row}
+use Rattle.steps.specs.declared.row.State.{State}
+use Rattle.steps.specs.declared.row.State.the-variants.{Live, Deleted, Refused}
+use Rattle.steps.proofs.Altering.{either}
 use Rattle.index.proofs.Every.{holds-every}
-use Rattle.index.proofs.Headers.{within}
+use Rattle.steps.proofs.Headers.{within}
 use Rattle.history.proofs.Sound.{sound-lent, sound-whole}
 use Rattle.history.proofs.SoundReading.{sound-reads, row-undamaged}
 

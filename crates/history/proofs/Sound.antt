@@ -16,12 +16,12 @@ use Rattle.words.specs.Rows.{rowAt}
 use Rattle.blocks.specs.Shape.{Limits, blockSize, fenceCount}
 use Rattle.blocks.specs.Whole.{wholeLists}
 use Rattle.blocks.proofs.Sizes.{place-fits}
-use Rattle.index.specs.Memory.{Memory, withinLimits, shapeOf, lent, blockAt, rowsIn, soundValue, every, holdersOf, isSound}
+use Rattle.steps.specs.Memory.{Memory, withinLimits, shapeOf, lent, blockAt, rowsIn, soundValue, every, holdersOf, isSound}
 use Rattle.index.specs.Soundness.{SoundLists, FencesRight, Sound}
 use Rattle.index.specs.Calls.{badHeader, small, auditOutcome}
-use Rattle.index.specs.declared.header.Header.{Header}
+use Rattle.steps.specs.declared.header.Header.{Header}
 use Rattle.index.proofs.Every.{every-holds, holds-every}
-use Rattle.index.proofs.Headers.{within, within-limits}
+use Rattle.steps.proofs.Headers.{within, within-limits}
 use Rattle.index.proofs.Holders.{few-apart, apart-few}
 use Rattle.history.proofs.SoundBlocks.{lists-whole, current-clear}
 use Rattle.history.proofs.SoundTests.{lent-says, says-lent, value-says, says-value}

@@ -5,10 +5,10 @@ use mathlib.Core.List.{List}
 use Prim.Native.Nat.{ℕ, _<_, _≤_}
 use lib.Dec.{leb, eqb}
 use borrow.Author.Tests.{le-leb, eqb-true, eqb-false}
-use Rattle.index.specs.Memory.{Memory, limits, withinLimits, shapeOf, blockAt, rowsIn}
+use Rattle.steps.specs.Memory.{Memory, limits, withinLimits, shapeOf, blockAt, rowsIn}
 use Rattle.index.specs.Soundness.{SoundLists, FencesRight, NoRowInTwo, Sound}
-use Rattle.index.specs.declared.header.Header.{Header}
-use Rattle.index.proofs.Altering.{either}
+use Rattle.steps.specs.declared.header.Header.{Header}
+use Rattle.steps.proofs.Altering.{either}
 use Rattle.history.proofs.Changes.{OnlyValue, others-right}
 use Rattle.history.proofs.SoundBlocks.{lists-later}
 

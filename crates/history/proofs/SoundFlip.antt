@@ -15,13 +15,14 @@ use Rattle.blocks.specs.Block.{current}
 use Rattle.blocks.specs.Change.{mergeDue, flipped}
 use Rattle.blocks.proofs.Flipping.{length-flipped, current-flipped, rowAt-flipped, rowAt-flipped-other, value-kept}
 use Rattle.blocks.proofs.Parts.{length-part}
-use Rattle.index.specs.Memory.{Memory, shapeOf, blockAt, rowsIn}
+use Rattle.steps.specs.Entry.{grown}
+use Rattle.steps.specs.Memory.{Memory, shapeOf, blockAt, rowsIn}
 use Rattle.index.specs.Soundness.{SoundLists, FencesRight, NoRowInTwo, Sound}
-use Rattle.index.specs.Calls.{withBlock, flippedIn, grown}
-use Rattle.index.specs.declared.header.Header.{Header}
-use Rattle.index.proofs.Altering.{either}
+use Rattle.index.specs.Calls.{withBlock, flippedIn}
+use Rattle.steps.specs.declared.header.Header.{Header}
+use Rattle.steps.proofs.Altering.{either}
 use Rattle.history.proofs.Changes.{block-put, block-only, Replaced, replaced}
-use Rattle.index.proofs.Headers.{within}
+use Rattle.steps.proofs.Headers.{within}
 use Rattle.index.proofs.Holders.{NoHolder}
 use Rattle.history.proofs.Sound.{block-lent, fences-lent, sound-limits, sound-whole, sound-clear}
 use Rattle.history.proofs.SoundAfter.{of-each, issuing, sound-after}

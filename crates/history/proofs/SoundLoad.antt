@@ -17,15 +17,15 @@ use Rattle.blocks.specs.Shape.{Limits, blockSize, fenceCount}
 use Rattle.blocks.specs.Column.{groupsWith, listFor, loaded}
 use Rattle.blocks.proofs.Columns.{row-held, row-past, length-listFor, clear-listFor, canonical-listFor, length-loaded, current-loaded}
 use Rattle.blocks.proofs.Sizes.{place-fits}
-use Rattle.index.specs.Memory.{Memory, limits, withinLimits, shapeOf, lent, blockAt, rowsIn}
+use Rattle.steps.specs.Memory.{Memory, limits, withinLimits, shapeOf, lent, blockAt, rowsIn}
 use Rattle.index.specs.Soundness.{SoundLists, FencesRight, Sound}
-use Rattle.index.specs.Outcomes.{After, made}
-use Rattle.index.specs.Entry.{validColumn}
-use Rattle.index.specs.Calls.{loadedIn, noHeader, loadHeader, loadChecks, loadAfter}
-use Rattle.index.specs.declared.header.Header.{Header}
+use Rattle.steps.specs.Outcomes.{After, made}
+use Rattle.steps.specs.Entry.{validColumn, noHeader}
+use Rattle.index.specs.Calls.{loadedIn, loadHeader, loadChecks, loadAfter}
+use Rattle.steps.specs.declared.header.Header.{Header}
 use Rattle.history.proofs.Accepting.{change-accepted, passes-change}
 use Rattle.history.proofs.Changes.{replaced, others-right}
-use Rattle.index.proofs.Headers.{within, within-limits}
+use Rattle.steps.proofs.Headers.{within, within-limits}
 use Rattle.history.proofs.SoundAfter.{of-each}
 use Rattle.history.proofs.SoundBlocks.{emptied-sound}
 use Rattle.history.proofs.SoundTests.{lent-says}

@@ -6,12 +6,12 @@ use native.Mathlib.Omega.{arith}
 use Rattle.blocks.specs.Block.{current}
 use Rattle.blocks.specs.Change.{merged}
 use Rattle.blocks.proofs.Merging.{length-merged, current-merged}
-use Rattle.index.specs.Memory.{Memory, shapeOf, blockAt, rowsIn}
+use Rattle.steps.specs.Memory.{Memory, shapeOf, blockAt, rowsIn}
 use Rattle.index.specs.Soundness.{Sound}
 use Rattle.index.specs.Calls.{mergedIn, queryOutcome, valueOutcome, dumpOutcome}
-use Rattle.index.specs.declared.header.Header.{Header}
+use Rattle.steps.specs.declared.header.Header.{Header}
 use Rattle.history.proofs.Changes.{Replaced, replaced}
-use Rattle.index.proofs.Headers.{within}
+use Rattle.steps.proofs.Headers.{within}
 use Rattle.history.proofs.SameRows.{SameState, query-same, value-same, dump-same}
 use Rattle.history.proofs.Sound.{block-lent, fences-lent, sound-limits, sound-whole}
 use Rattle.history.proofs.SoundAfter.{of-each, sound-after}

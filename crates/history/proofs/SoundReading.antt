@@ -14,14 +14,14 @@ use Rattle.blocks.specs.Fences.{cursorAt}
 use Rattle.blocks.specs.declared.read.Reading.the-variants.{Group}
 use Rattle.blocks.proofs.Reaching.{Reaches, fence-reads}
 use Rattle.blocks.proofs.Sizes.{fence-of}
-use Rattle.index.specs.Memory.{Memory, shapeOf, blockAt, rowsIn, holdersOf}
-use Rattle.index.specs.Fences.{noFence}
-use Rattle.index.specs.Reading.{fenceFor, readIn, rowStep, readRow, rowOf, isDamaged}
+use Rattle.steps.specs.Memory.{Memory, shapeOf, blockAt, rowsIn, holdersOf}
+use Rattle.steps.specs.Fences.{noFence}
+use Rattle.steps.specs.Reading.{fenceFor, readIn, rowStep, readRow, rowOf, isDamaged}
 use Rattle.index.specs.Soundness.{Sound}
-use Rattle.index.specs.declared.header.Header.{Header}
-use Rattle.index.specs.declared.row.Row.{Row}
+use Rattle.steps.specs.declared.header.Header.{Header}
+use Rattle.steps.specs.declared.row.Row.{Row}
 use Rattle.index.proofs.Holders.{holder-counts, none-holds, one-holds, NoHolder}
-use Rattle.index.proofs.RowLaws.{step-clear, step-set, readBudget}
+use Rattle.steps.proofs.RowLaws.{step-clear, step-set, readBudget}
 use Rattle.history.proofs.Sound.{sound-limits, sound-whole, sound-clear, sound-few}
 
 -- ---- one value more, by the row's bit

@@ -20,12 +20,12 @@ use Rattle.blocks.proofs.Parts.{length-part}
 use Rattle.blocks.specs.Audit.{soundLists}
 use Rattle.blocks.proofs.SoundLists.{sound-parts, parts-sound}
 use Rattle.blocks.proofs.WholeLists.{whole-parts}
-use Rattle.index.specs.Memory.{Memory, shapeOf, lent, blockAt, fencesAt, soundValue}
-use Rattle.index.specs.Fences.{noFence, isFence, rightFences}
+use Rattle.steps.specs.Memory.{Memory, shapeOf, lent, blockAt, fencesAt, soundValue}
+use Rattle.steps.specs.Fences.{noFence, isFence, rightFences}
 use Rattle.index.specs.Soundness.{SoundLists, Holds, FencesRight}
-use Rattle.index.specs.declared.header.Header.{Header}
-use Rattle.index.specs.declared.header.Fence.{Fence}
-use Rattle.index.proofs.FenceRecords.{each-right, all-right}
+use Rattle.steps.specs.declared.header.Header.{Header}
+use Rattle.steps.specs.declared.header.Fence.{Fence}
+use Rattle.steps.proofs.FenceRecords.{each-right, all-right}
 use Rattle.history.proofs.Changes.{getD-fencesAt}
 use Rattle.history.proofs.SoundBlocks.{lists-whole}
 

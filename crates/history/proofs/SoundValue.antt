@@ -5,13 +5,13 @@ use Prim.Native.Nat.{ℕ, _<_}
 use native.Mathlib.Omega.{arith}
 use borrow.Author.Tests.{lt-leb, eq-eqb, ne-eqb}
 use Rattle.words.specs.Rows.{rowAt}
-use Rattle.index.specs.Memory.{Memory, rowsIn}
-use Rattle.index.specs.Reading.{rowOf, valueOf, ValuePaper, statePaper, valuePaper}
+use Rattle.steps.specs.Memory.{Memory, rowsIn}
+use Rattle.steps.specs.Reading.{rowOf, valueOf, ValuePaper, statePaper, valuePaper}
 use Rattle.index.specs.Soundness.{Sound}
 use Rattle.index.specs.Calls.{valueOutcome}
-use Rattle.index.specs.declared.header.Header.{Header}
-use Rattle.index.specs.declared.row.State.the-variants.{Live, Deleted}
-use Rattle.index.proofs.Headers.{within}
+use Rattle.steps.specs.declared.header.Header.{Header}
+use Rattle.steps.specs.declared.row.State.the-variants.{Live, Deleted}
+use Rattle.steps.proofs.Headers.{within}
 use Rattle.index.proofs.Holders.{Holder, NoHolder, holder-or-none}
 use Rattle.history.proofs.Sound.{sound-lent}
 use Rattle.history.proofs.SoundReading.{row-found, row-none, row-undamaged}

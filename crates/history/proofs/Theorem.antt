@@ -3,8 +3,8 @@ use mathlib.Core.Path.{_≡_, refl}
 use mathlib.Core.List.{List, [], _∷_}
 use lib.ListN.{replicate}
 use Rattle.blocks.specs.Shape.{fenceCount}
-use Rattle.index.specs.Memory.{Memory, memoryOf, limits, lent}
-use Rattle.index.specs.Fences.{noFence}
+use Rattle.steps.specs.Memory.{Memory, memoryOf, limits, lent}
+use Rattle.steps.specs.Fences.{noFence}
 use Rattle.index.specs.Calls.{loadAfter}
 use Rattle.history.specs.Calls.{Call, Load, Query, Value, Insert, Update, Delete, Merge, Dump, Audit, Index, step, run}
 use Rattle.history.specs.Plain.{Plain, plainly, plainRun}

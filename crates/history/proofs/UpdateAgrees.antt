@@ -10,13 +10,13 @@ use lib.Seq.{getD-set-same, set-getD, set-set}
 use borrow.Author.Tests.{leb-false, eqb-true}
 use Rattle.answers.specs.Outcome.{_when_}
 use Rattle.answers.specs.declared.Refusal.the-variants.{Damaged, Gone}
-use Rattle.index.specs.Memory.{Memory}
-use Rattle.index.specs.Reading.{rowOf, isDamaged, isDeleted}
-use Rattle.index.specs.Outcomes.{made}
+use Rattle.steps.specs.Memory.{Memory}
+use Rattle.steps.specs.Reading.{rowOf, isDamaged, isDeleted}
+use Rattle.steps.specs.Outcomes.{made}
 use Rattle.index.specs.Soundness.{Sound}
 use Rattle.index.specs.Calls.{whole, flippedIn, oldValue, updateAfter}
-use Rattle.index.specs.declared.header.Header.{Header}
-use Rattle.index.proofs.Altering.{either}
+use Rattle.steps.specs.declared.header.Header.{Header}
+use Rattle.steps.proofs.Altering.{either}
 use Rattle.history.specs.Calls.{Update, indexOf}
 use Rattle.history.specs.Plain.{Plain, headerOf, withColumn, byteAt, becoming, plainBadValue, plainNoRow, plainGone, plainly}
 use Rattle.history.specs.History.{Agrees, Good}

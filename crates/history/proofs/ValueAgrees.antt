@@ -9,13 +9,13 @@ use lib.Dec.{leb}
 use lib.ListN.{length}
 use borrow.Author.Tests.{leb-false}
 use Rattle.answers.specs.declared.Refusal.the-variants.{NoRow}
-use Rattle.index.specs.Memory.{Memory}
-use Rattle.index.specs.Reading.{rowOf, refusedValue, ValuePaper, valuePaper}
+use Rattle.steps.specs.Memory.{Memory}
+use Rattle.steps.specs.Reading.{rowOf, refusedValue, ValuePaper, valuePaper}
 use Rattle.index.specs.Soundness.{Sound}
 use Rattle.index.specs.Calls.{valueOutcome}
-use Rattle.index.specs.declared.header.Header.{Header}
-use Rattle.index.proofs.Altering.{either}
-use Rattle.index.proofs.RowLaws.{row-opened}
+use Rattle.steps.specs.declared.header.Header.{Header}
+use Rattle.steps.proofs.Altering.{either}
+use Rattle.steps.proofs.RowLaws.{row-opened}
 use Rattle.history.specs.Calls.{Value, stated, replied}
 use Rattle.history.specs.Plain.{Plain, headerOf, byteAt, PlainReply, stateOf, plainly}
 use Rattle.history.specs.History.{openedLimit, Agrees, Good}

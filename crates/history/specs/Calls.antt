@@ -3,11 +3,11 @@ use mathlib.Core.List.{List, [], _∷_}
 use Prim.Native.Nat.{ℕ, zero, suc}
 use Rattle.answers.specs.Numbers.{Paper}
 use Rattle.answers.specs.Outcome.{Outcome}
-use Rattle.index.specs.Memory.{Memory}
-use Rattle.index.specs.Outcomes.{After}
-use Rattle.index.specs.Reading.{ValuePaper}
+use Rattle.steps.specs.Memory.{Memory}
+use Rattle.steps.specs.Outcomes.{After}
+use Rattle.steps.specs.Reading.{ValuePaper}
 use Rattle.index.specs.Calls.{loadAfter, queryOutcome, valueOutcome, insertAfter, updateAfter, deleteAfter, mergeAfter, dumpOutcome, auditOutcome}
-use Rattle.index.specs.declared.header.Header.{Header}
+use Rattle.steps.specs.declared.header.Header.{Header}
 
 -- a call with its arguments: Load has R, d, T, G and the column; an output is lent with what it holds
 pub data Call : Type 0 where

@@ -5,11 +5,11 @@ use Prim.Native.Nat.{ℕ}
 use lib.ListN.{length, drop, replicate}
 use Rattle.answers.specs.Outcome.{Outcome}
 use Rattle.words.specs.Calls.{packOutcome}
-use Rattle.index.specs.Fences.{fence}
-use Rattle.index.specs.Memory.{memoryOf}
-use Rattle.index.specs.Outcomes.{made}
-use Rattle.index.specs.Calls.{noHeader}
-use Rattle.index.specs.declared.header.Fence.{Fence}
+use Rattle.steps.specs.Entry.{noHeader}
+use Rattle.steps.specs.Fences.{fence}
+use Rattle.steps.specs.Memory.{memoryOf}
+use Rattle.steps.specs.Outcomes.{made}
+use Rattle.steps.specs.declared.header.Fence.{Fence}
 use Rattle.history.specs.Calls.{Call, Load, Query, Value, Insert, Update, Delete, Index, indexOf, Reply, changing, answering, finding, obey}
 
 -- ---- what is stated of a call

@@ -12,10 +12,10 @@ use Rattle.words.specs.Rows.{rowAt}
 use Rattle.words.specs.Words.{decode}
 use Rattle.blocks.specs.Block.{valueList, updateList}
 use Rattle.blocks.specs.Whole.{updateOnes}
-use Rattle.index.specs.Memory.{Memory, shapeOf, blockAt}
+use Rattle.steps.specs.Entry.{noHeader}
+use Rattle.steps.specs.Memory.{Memory, shapeOf, blockAt}
 use Rattle.index.specs.Soundness.{FencesRight}
-use Rattle.index.specs.Reading.{rowOf}
-use Rattle.index.specs.Calls.{noHeader}
+use Rattle.steps.specs.Reading.{rowOf}
 use Rattle.history.specs.Calls.{Call, Load, Query, Value, Insert, Update, Delete, Merge, Dump, Audit, Index, indexOf, obey, step}
 use Rattle.history.specs.Plain.{Plain, byteAt}
 use Rattle.history.specs.History.{bitOf, openedLimit}

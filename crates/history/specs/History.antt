@@ -6,10 +6,10 @@ use Prim.Native.Nat.{ℕ, _+_, _*_, _<_, _≤_}
 use lib.Dec.{eqb}
 use lib.ListN.{length}
 use Rattle.words.specs.Rows.{rowAt}
-use Rattle.index.specs.Memory.{Memory, rowsIn}
+use Rattle.steps.specs.Memory.{Memory, rowsIn}
 use Rattle.index.specs.Soundness.{Sound}
-use Rattle.index.specs.Outcomes.{After}
-use Rattle.index.specs.Entry.{validColumn}
+use Rattle.steps.specs.Outcomes.{After}
+use Rattle.steps.specs.Entry.{validColumn}
 use Rattle.index.specs.Calls.{loadAfter}
 use Rattle.history.specs.Calls.{Call, Index, indexOf, obey, step, run}
 use Rattle.history.specs.Plain.{Plain, headerOf, byteAt, plainly, plainLoaded, plainRun}

@@ -11,10 +11,10 @@ use Rattle.answers.specs.declared.Refusal.the-variants.{BadHeader, Small, BadVa
 use Rattle.words.specs.Rows.{groupsFor, cut}
 use Rattle.words.specs.Words.{encode}
 use Rattle.blocks.specs.Column.{rowsWith}
-use Rattle.index.specs.Memory.{limits, lent}
-use Rattle.index.specs.Entry.{validColumn}
+use Rattle.steps.specs.Memory.{limits, lent}
+use Rattle.steps.specs.Entry.{validColumn}
 use Rattle.index.specs.Calls.{loadHeader}
-use Rattle.index.specs.declared.header.Header.{Header}
+use Rattle.steps.specs.declared.header.Header.{Header}
 use Rattle.history.specs.Calls.{Call, Load, Query, Value, Insert, Update, Delete, Merge, Dump, Audit, Said, counted}
 
 -- the numbers of words and fences lent to the index beside it; the load's R, d, T and G, of which it uses R and d; and the bytes, one a row

@@ -7,13 +7,13 @@ use lib.ListN.{length}
 use Rattle.answers.specs.Numbers.{paper}
 use Rattle.answers.specs.Outcome.{Gives}
 use Rattle.answers.specs.declared.Answer.{Answer}
-use Rattle.index.specs.Memory.{memoryOf}
-use Rattle.index.specs.Outcomes.{Leaves}
-use Rattle.index.specs.Reading.{valuePaper}
+use Rattle.steps.specs.Memory.{memoryOf}
+use Rattle.steps.specs.Outcomes.{Leaves}
+use Rattle.steps.specs.Reading.{valuePaper}
 use Rattle.index.specs.Calls.{loadAfter, queryOutcome, valueOutcome, insertAfter, updateAfter, deleteAfter, mergeAfter, dumpOutcome, auditOutcome}
-use Rattle.index.specs.declared.header.Fence.{Fence}
-use Rattle.index.specs.declared.header.Changed.{Changed}
-use Rattle.index.specs.declared.row.Value.{Value as RowValue}
+use Rattle.steps.specs.declared.header.Fence.{Fence}
+use Rattle.steps.specs.declared.header.Changed.{Changed}
+use Rattle.steps.specs.declared.row.Value.{Value as RowValue}
 use Rattle.history.specs.Calls.{Call, Load, Query, Value, Insert, Update, Delete, Merge, Dump, Audit, Index, Reply, counted, finding, replied}
 use Rattle.history.specs.Plain.{Plain, plainly, plainLoaded, plainRun}
 use Rattle.history.specs.History.{openedLimit}

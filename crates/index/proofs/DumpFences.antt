@@ -12,10 +12,10 @@ use Rattle.blocks.specs.Dump.{eachRow, everyRow, freeInReading, markedInReading
 use Rattle.blocks.proofs.EachRow.{each-keeps, each-then, each-agrees, each-every, every-then, every-agrees}
 use Rattle.blocks.proofs.Sizes.{rounded-of}
 use Rattle.blocks.specs.Read.{readGroup}
-use Rattle.index.specs.Memory.{Memory, shapeOf, blockAt}
-use Rattle.index.specs.Reading.{fenceFor, readIn}
-use Rattle.index.specs.Dumping.{fencesFor, fenceHolds, fenceMarked, fenceNumber, turnHolds, turnMarked, markedFences, fencesHold}
-use Rattle.index.specs.declared.header.Header.{Header}
+use Rattle.steps.specs.Memory.{Memory, shapeOf, blockAt}
+use Rattle.steps.specs.Reading.{fenceFor, readIn}
+use Rattle.steps.specs.Dumping.{fencesFor, fenceHolds, fenceMarked, fenceNumber, turnHolds, turnMarked, markedFences, fencesHold}
+use Rattle.steps.specs.declared.header.Header.{Header}
 
 -- ---- the fence of a group
 

@@ -12,18 +12,18 @@ use lib.Seq.{ext-getD, getD-at, getD-take, length-take-le}
 use borrow.Author.Tests.{lt-ltb, ltb-true, eqb-true, eqb-false}
 use Rattle.blocks.specs.Dump.{eachRow, everyRow}
 use Rattle.blocks.proofs.EachRow.{length-each, getD-each, every-each, each-every}
-use Rattle.index.specs.Memory.{Memory, blockAt, every}
-use Rattle.index.specs.Entry.{planOf}
-use Rattle.index.specs.Alter.{blockIn}
-use Rattle.index.specs.Reading.{rowOf, isDamaged}
+use Rattle.steps.specs.Memory.{Memory, blockAt, every}
+use Rattle.steps.specs.Entry.{planOf}
+use Rattle.steps.specs.Alter.{blockIn}
+use Rattle.steps.specs.Reading.{rowOf, isDamaged}
 use Rattle.index.specs.Calls.{byteOf, bytesOf}
-use Rattle.index.specs.Dumping.{fencesFor, fenceHolds, fenceMarked, fenceNumber, turnHolds, markedFences, fencesHold, markedValues, valuesHold}
-use Rattle.index.specs.declared.entry.Plan.{Plan}
-use Rattle.index.specs.declared.header.Header.{Header}
-use Rattle.index.specs.declared.header.Fence.{Fence}
+use Rattle.steps.specs.Dumping.{fencesFor, fenceHolds, fenceMarked, fenceNumber, turnHolds, markedFences, fencesHold, markedValues, valuesHold}
+use Rattle.steps.specs.declared.entry.Plan.{Plan}
+use Rattle.steps.specs.declared.header.Header.{Header}
+use Rattle.steps.specs.declared.header.Fence.{Fence}
 use Rattle.index.proofs.DumpValues.{rowByte, rowFree, Tells, row-tells, allFree, allMarked, values-marked, values-hold}
 use Rattle.index.proofs.Every.{every-holds, holds-every, same-test}
-use Rattle.index.proofs.Headers.{Within}
+use Rattle.steps.proofs.Headers.{Within}
 
 -- ---- answers
 

@@ -10,13 +10,13 @@ use Rattle.blocks.specs.Dump.{eachRow, everyRow, freeInReading, markedInReading
 use Rattle.blocks.specs.declared.read.Reading.{Reading}
 use Rattle.blocks.specs.declared.read.Reading.the-variants.{Group, Broken}
 use Rattle.blocks.proofs.EachRow.{each-keeps, each-then, each-every, every-then}
-use Rattle.index.specs.Memory.{Memory}
-use Rattle.index.specs.Reading.{readIn, rowStep, readRow, isDamaged, isDeleted}
-use Rattle.index.specs.Dumping.{markedValues, valuesHold}
-use Rattle.index.specs.declared.header.Header.{Header}
-use Rattle.index.specs.declared.row.Row.{Row}
+use Rattle.steps.specs.Memory.{Memory}
+use Rattle.steps.specs.Reading.{readIn, rowStep, readRow, isDamaged, isDeleted}
+use Rattle.steps.specs.Dumping.{markedValues, valuesHold}
+use Rattle.steps.specs.declared.header.Header.{Header}
+use Rattle.steps.specs.declared.row.Row.{Row}
 use Rattle.index.proofs.DumpFences.{issuedFree, issuedMarked, value-marked, value-holds}
-use Rattle.index.proofs.RowLaws.{row-says}
+use Rattle.steps.proofs.RowLaws.{row-says}
 
 -- ---- one row, value by value
 

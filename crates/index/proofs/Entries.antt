@@ -11,15 +11,15 @@ use Rattle.answers.specs.declared.Refusal.{Refusal}
 use Rattle.answers.specs.declared.Refusal.the-variants.{BadHeader, Small, NoRow}
 use Rattle.answers.proofs.Accepted.{Passes}
 use Rattle.blocks.specs.Shape.{blockSize, fenceCount}
-use Rattle.index.specs.Memory.{Memory, withinLimits, shapeOf, lent}
-use Rattle.index.specs.Entry.{planOf, Planned, askedAll, enteredIndex, entered}
-use Rattle.index.specs.Reading.{rowOf, refusedValue, valueOf, ValuePaper, valuePaper}
-use Rattle.index.specs.Outcomes.{After, change}
+use Rattle.steps.specs.Memory.{Memory, withinLimits, shapeOf, lent}
+use Rattle.steps.specs.Entry.{planOf, Planned, askedAll, enteredIndex, entered}
+use Rattle.steps.specs.Reading.{rowOf, refusedValue, valueOf, ValuePaper, valuePaper}
+use Rattle.steps.specs.Outcomes.{After, change}
 use Rattle.index.specs.Calls.{badHeader, small, noRow, valueOutcome}
-use Rattle.index.specs.declared.header.Header.{Header}
-use Rattle.index.specs.declared.entry.Plan.{Plan}
-use Rattle.index.specs.declared.entry.Entry.{Entry}
-use Rattle.index.specs.declared.entry.Entry.the-variants.{Ready, Stop}
+use Rattle.steps.specs.declared.header.Header.{Header}
+use Rattle.steps.specs.declared.entry.Plan.{Plan}
+use Rattle.steps.specs.declared.entry.Entry.{Entry}
+use Rattle.steps.specs.declared.entry.Entry.the-variants.{Ready, Stop}
 use Rattle.index.proofs.Refusing.{Refuses, not-ready, same-reason, ready-passes, passes-read, stop-read}
 use Rattle.index.proofs.Refusing.{refusedChange, change-refuses, refusedOutcome, outcome-refuses}
 

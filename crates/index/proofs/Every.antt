@@ -5,7 +5,7 @@ use mathlib.Core.Logic.{by-cases}
 use Prim.Native.Nat.{ℕ, zero, suc, _<_}
 use native.Mathlib.Decide.{decLt}
 use native.Mathlib.Omega.{arith}
-use Rattle.index.specs.Memory.{every}
+use Rattle.steps.specs.Memory.{every}
 
 -- it holds of each, and back
 pub every-holds : (count : ℕ) (test : ℕ → Bool) → every count test ≡ true → (number : ℕ) → number < count → test number ≡ true

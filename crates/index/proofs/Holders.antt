@@ -6,8 +6,8 @@ use Prim.Native.Nat.{ℕ, zero, suc, _+_, _<_, _≤_}
 use native.Mathlib.Decide.{decLt}
 use native.Mathlib.Omega.{arith}
 use Rattle.words.specs.Rows.{rowAt}
-use Rattle.index.specs.Memory.{rowsIn, holdersOf}
-use Rattle.index.specs.declared.header.Header.{Header}
+use Rattle.steps.specs.Memory.{rowsIn, holdersOf}
+use Rattle.steps.specs.declared.header.Header.{Header}
 
 module _ (header : Header) (words : List ℕ) (row : ℕ) where
   -- the row's bit of a value

@@ -1,17 +1,13 @@
-pub mod Altering
 pub mod DumpFences
 pub mod DumpValues
 pub mod DumpLaws
 pub mod Entries
 pub mod Every
-pub mod FenceRecords
-pub mod Headers
 pub mod Holders
 pub mod MemoryLeft
 pub mod OneOutcome
 pub mod Planning
 pub mod Refusing
-pub mod RowLaws
 pub mod Taken
 pub mod Taking
 pub mod ValuePapers

@@ -7,17 +7,17 @@ use lib.ListN.{length}
 use Rattle.blocks.specs.Shape.{fenceCount}
 use Rattle.blocks.specs.Block.{write, valueList}
 use Rattle.blocks.specs.Change.{mergeDue}
-use Rattle.index.specs.Alter.{Suits, blockIn, isWhole, mergeWords, flipWords, moveWords}
-use Rattle.index.specs.Alter.{renewedFences, flipFences, moveFences}
-use Rattle.index.specs.Entry.{planOf}
-use Rattle.index.specs.Fences.{fencesFrom}
-use Rattle.index.specs.Memory.{Memory, memoryOf, blockAt}
+use Rattle.steps.specs.Alter.{Suits, blockIn, isWhole, mergeWords, flipWords, moveWords}
+use Rattle.steps.specs.Alter.{renewedFences, flipFences, moveFences}
+use Rattle.steps.specs.Entry.{planOf}
+use Rattle.steps.specs.Fences.{fencesFrom}
+use Rattle.steps.specs.Memory.{Memory, memoryOf, blockAt}
 use Rattle.index.specs.Calls.{whole, withBlock, renewed, mergedIn, flippedIn}
-use Rattle.index.specs.declared.header.Header.{Header}
-use Rattle.index.specs.declared.header.Fence.{Fence}
-use Rattle.index.specs.declared.entry.Plan.{Plan}
-use Rattle.index.proofs.Altering.{flippedBlock, merge-put, flip-put, flip-only}
-use Rattle.index.proofs.alter.Moving.{move-flips}
+use Rattle.steps.specs.declared.header.Header.{Header}
+use Rattle.steps.specs.declared.header.Fence.{Fence}
+use Rattle.steps.specs.declared.entry.Plan.{Plan}
+use Rattle.steps.proofs.Altering.{flippedBlock, merge-put, flip-put, flip-only}
+use Rattle.steps.proofs.alter.Moving.{move-flips}
 
 -- fences are made from the value's block alone
 same-fences : (plan : Plan) (words other : List ℕ) (fences : List Fence) (value : ℕ) → blockIn plan words value ≡ blockIn plan other value

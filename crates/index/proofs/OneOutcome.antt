@@ -5,15 +5,15 @@ use Prim.Native.Nat.{ℕ}
 use Rattle.answers.specs.Outcome.{Outcome, Gives}
 use Rattle.answers.specs.declared.Answer.{Answer}
 use Rattle.answers.proofs.OneToOne.{one-to-one, gives-one}
-use Rattle.index.specs.Memory.{Memory}
-use Rattle.index.specs.Outcomes.{After, Leaves}
-use Rattle.index.specs.Reading.{valuePaper}
+use Rattle.steps.specs.Memory.{Memory}
+use Rattle.steps.specs.Outcomes.{After, Leaves}
+use Rattle.steps.specs.Reading.{valuePaper}
 use Rattle.index.specs.Calls.{valueOutcome, queryOutcome, dumpOutcome, auditOutcome}
 use Rattle.index.specs.Calls.{loadAfter, mergeAfter, insertAfter, deleteAfter, updateAfter}
-use Rattle.index.specs.declared.header.Header.{Header}
-use Rattle.index.specs.declared.header.Fence.{Fence}
-use Rattle.index.specs.declared.header.Changed.{Changed}
-use Rattle.index.specs.declared.row.Value.{Value}
+use Rattle.steps.specs.declared.header.Header.{Header}
+use Rattle.steps.specs.declared.header.Fence.{Fence}
+use Rattle.steps.specs.declared.header.Changed.{Changed}
+use Rattle.steps.specs.declared.row.Value.{Value}
 use Rattle.index.proofs.ValuePapers.{value-one-to-one}
 
 -- ---- one outcome of each kind of promise

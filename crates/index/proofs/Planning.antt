@@ -5,12 +5,12 @@ use native.Mathlib.Nat.{add-suc, add-zero, mul-le-mul}
 use native.Mathlib.Omega.{arith}
 use Rattle.blocks.specs.Shape.{Limits, blockSize, fenceCount}
 use Rattle.blocks.proofs.Sizes.{place-fits, few-groups, few-fences}
-use Rattle.index.specs.Memory.{shapeOf}
-use Rattle.index.specs.Entry.{Planned}
-use Rattle.index.specs.Alter.{Suits, Fenced}
-use Rattle.index.specs.declared.header.Header.{Header}
-use Rattle.index.specs.declared.entry.Plan.{Plan}
-use Rattle.index.proofs.Headers.{Within, within, within-limits}
+use Rattle.steps.specs.Memory.{shapeOf}
+use Rattle.steps.specs.Entry.{Planned}
+use Rattle.steps.specs.Alter.{Suits, Fenced}
+use Rattle.steps.specs.declared.header.Header.{Header}
+use Rattle.steps.specs.declared.entry.Plan.{Plan}
+use Rattle.steps.proofs.Headers.{Within, within, within-limits}
 
 -- a turn's count and the next
 pub one-more : (i : ℕ) → i + 1 ≡ suc i

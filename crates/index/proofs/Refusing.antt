@@ -8,12 +8,12 @@ use Rattle.answers.specs.Numbers.{numberOf}
 use Rattle.answers.specs.Outcome.{Check, _when_, Outcome, outcome}
 use Rattle.answers.specs.declared.Refusal.{Refusal}
 use Rattle.answers.proofs.Accepted.{Passes}
-use Rattle.index.specs.Memory.{Memory}
-use Rattle.index.specs.Entry.{askedAll}
-use Rattle.index.specs.Outcomes.{After, change}
-use Rattle.index.specs.declared.header.Header.{Header}
-use Rattle.index.specs.declared.entry.Plan.{Plan}
-use Rattle.index.specs.declared.entry.Entry.the-variants.{Ready, Stop}
+use Rattle.steps.specs.Memory.{Memory}
+use Rattle.steps.specs.Entry.{askedAll}
+use Rattle.steps.specs.Outcomes.{After, change}
+use Rattle.steps.specs.declared.header.Header.{Header}
+use Rattle.steps.specs.declared.entry.Plan.{Plan}
+use Rattle.steps.specs.declared.entry.Entry.the-variants.{Ready, Stop}
 
 -- ---- an entry
 

@@ -18,8 +18,8 @@ use Rattle.blocks.specs.Shape.{Limits}
 use Rattle.blocks.specs.Audit.{soundLists}
 use Rattle.blocks.proofs.SoundLists.{sound-parts, sound-current}
 use Rattle.blocks.proofs.WholeLists.{length-current}
-use Rattle.index.specs.Memory.{shapeOf, blockAt, rowsIn, every, holdersOf}
-use Rattle.index.specs.declared.header.Header.{Header}
+use Rattle.steps.specs.Memory.{shapeOf, blockAt, rowsIn, every, holdersOf}
+use Rattle.steps.specs.declared.header.Header.{Header}
 use Rattle.index.proofs.Every.{every-holds, holds-every, same-test}
 
 -- ---- the rows of the first values

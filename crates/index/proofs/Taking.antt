@@ -13,8 +13,8 @@ use Rattle.lists.proofs.Combining.{combined-lt}
 use Rattle.lists.proofs.Operations.{either-bits}
 use Rattle.blocks.specs.Shape.{Limits}
 use Rattle.blocks.proofs.Rooms.{take-zeros}
-use Rattle.index.specs.Memory.{shapeOf, rowsIn}
-use Rattle.index.specs.declared.header.Header.{Header}
+use Rattle.steps.specs.Memory.{shapeOf, rowsIn}
+use Rattle.steps.specs.declared.header.Header.{Header}
 use Rattle.index.proofs.Taken.{takenBefore, SoundUpTo, taken-long}
 
 -- the first M groups of an array are the rows of the first values

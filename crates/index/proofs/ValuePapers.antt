@@ -9,14 +9,14 @@ use Rattle.answers.specs.declared.Answer.{Answer}
 use Rattle.answers.specs.declared.Answer.the-variants as answer
 use Rattle.answers.specs.declared.Refusal.the-variants.{Damaged}
 use Rattle.answers.proofs.OneToOne.{one-to-one}
-use Rattle.index.specs.Memory.{Memory}
-use Rattle.index.specs.Reading.{rowOf, isDamaged, isDeleted, refusedValue, valueOf, ValuePaper, statePaper, valuePaper}
-use Rattle.index.specs.declared.header.Header.{Header}
-use Rattle.index.specs.declared.row.Row.{Row}
-use Rattle.index.specs.declared.row.State.{State}
-use Rattle.index.specs.declared.row.State.the-variants.{Live, Deleted, Refused}
-use Rattle.index.specs.declared.row.Value.{Value}
-use Rattle.index.proofs.RowLaws.{readBudget, row-opened}
+use Rattle.steps.specs.Memory.{Memory}
+use Rattle.steps.specs.Reading.{rowOf, isDamaged, isDeleted, refusedValue, valueOf, ValuePaper, statePaper, valuePaper}
+use Rattle.steps.specs.declared.header.Header.{Header}
+use Rattle.steps.specs.declared.row.Row.{Row}
+use Rattle.steps.specs.declared.row.State.{State}
+use Rattle.steps.specs.declared.row.State.the-variants.{Live, Deleted, Refused}
+use Rattle.steps.specs.declared.row.Value.{Value}
+use Rattle.steps.proofs.RowLaws.{readBudget, row-opened}
 
 -- ---- the paper
 

@@ -1,4 +1,3 @@
--- What the proofs of Load use: the bytes of a column, one turn of the loop over values, and each way out.
-mod Columns
+-- What the proofs of Load use: one turn of the loop over values, and each way out.
 mod Exits
 mod Turns

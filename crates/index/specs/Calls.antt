@@ -13,12 +13,12 @@ use Rattle.blocks.specs.Block.{write, valueList}
 use Rattle.blocks.specs.Whole.{wholeLists}
 use Rattle.blocks.specs.Change.{merged, mergeDue, flipped}
 use Rattle.blocks.specs.Column.{loaded}
-use Rattle.index.specs.Entry.{validColumn, headerFor}
-use Rattle.index.specs.Fences.{fencesFrom}
-use Rattle.index.specs.Memory.{Memory, limits, withinLimits, shapeOf, lent, blockAt, rowsIn, every, isSound}
-use Rattle.index.specs.Reading.{rowOf, isDamaged, isDeleted, isFree, refusedValue, valueOf, ValuePaper, valuePaper}
-use Rattle.index.specs.Outcomes.{After, made, change}
-use Rattle.index.specs.declared.header.Header.{Header}
+use Rattle.steps.specs.Entry.{validColumn, headerFor, noHeader, grown}
+use Rattle.steps.specs.Fences.{fencesFrom}
+use Rattle.steps.specs.Memory.{Memory, limits, withinLimits, shapeOf, lent, blockAt, rowsIn, every, isSound}
+use Rattle.steps.specs.Reading.{rowOf, isDamaged, isDeleted, isFree, refusedValue, valueOf, ValuePaper, valuePaper}
+use Rattle.steps.specs.Outcomes.{After, made, change}
+use Rattle.steps.specs.declared.header.Header.{Header}
 
 -- ---- what every call on an index asks first
 
@@ -77,9 +77,6 @@ loadedIn header column (suc value) memory =
 
 -- ---- Load
 
-abbrev pub noHeader : Header
-noHeader = headerFor 0 0 0 0 0
-
 module _ (rows values threshold spacing : ℕ) (column : List ℕ) where
   abbrev pub loadHeader : Header
   loadHeader = headerFor rows (length column) values threshold spacing
@@ -95,17 +92,6 @@ module _ (rows values threshold spacing : ℕ) (column : List ℕ) where
   -- Load writes all lists and fences with empty updates and gives the header; a refused Load gives a header of zeros
   unfoldable pub loadAfter : Memory → After
   loadAfter memory = change (loadChecks memory) noHeader memory (made 0 loadHeader (loadedIn loadHeader column values memory))
-
--- one row more is issued
-abbrev pub grown : Header → Header
-grown header =
-    record {
-      rows = header .rows;
-      issued = header .issued + 1;
-      values = header .values;
-      threshold = header .threshold;
-      spacing = header .spacing;
-    }
 
 module _ (header : Header) (memory : Memory) where
   -- ---- Query, Merge, Audit

@@ -1,9 +1,2 @@
-pub mod Alter
 pub mod Calls
-pub mod Dumping
-pub mod Entry
-pub mod Fences
-pub mod Memory
-pub mod Outcomes
-pub mod Reading
 pub mod Soundness

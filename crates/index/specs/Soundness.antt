@@ -12,10 +12,10 @@ use Rattle.blocks.specs.Whole.{updateOnes}
 use Rattle.blocks.specs.Fences.{fenceAt}
 use Rattle.blocks.specs.declared.fence.Cursor.{Cursor}
 use Rattle.blocks.specs.declared.shape.Shape.{Shape}
-use Rattle.index.specs.Memory.{Memory, withinLimits, shapeOf, blockAt, rowsIn}
-use Rattle.index.specs.Fences.{noFence}
-use Rattle.index.specs.declared.header.Header.{Header}
-use Rattle.index.specs.declared.header.Fence.{Fence}
+use Rattle.steps.specs.Memory.{Memory, withinLimits, shapeOf, blockAt, rowsIn}
+use Rattle.steps.specs.Fences.{noFence}
+use Rattle.steps.specs.declared.header.Header.{Header}
+use Rattle.steps.specs.declared.header.Fence.{Fence}
 
 -- a list whose length is `count` in the words of its room: canonical for R rows, which have M groups, with no bit at row n or above; unused words are zero
 pub record SoundList (rows issued count room : ℕ) (words list : List ℕ) : Type 0 where

@@ -1,20 +1,20 @@
 // The calls that change nothing: Value and Query.
 ghost use mathlib.Core.Path.{_≡_};
 ghost use Rattle.answers.specs.Outcome.{Gives};
-ghost use Rattle.index.specs.Memory.{memoryOf};
-ghost use Rattle.index.specs.Reading.{valuePaper};
+ghost use Rattle.steps.specs.Memory.{memoryOf};
+ghost use Rattle.steps.specs.Reading.{valuePaper};
 ghost use Rattle.index.specs.Calls.{valueOutcome, queryOutcome};
-use crate::alter::query_value;
-use crate::entry::Entry;
-use crate::entry::enter_row;
-use crate::entry::enter_value;
-use crate::header::Fence;
-use crate::header::Header;
 use crate::reading::read_row;
-use crate::row::Value;
-use crate::row::refused;
-use crate::row::value_of;
 use answers::Answer;
+use steps::alter::query_value;
+use steps::entry::Entry;
+use steps::entry::enter_row;
+use steps::entry::enter_value;
+use steps::header::Fence;
+use steps::header::Header;
+use steps::row::Value;
+use steps::row::refused;
+use steps::row::value_of;
 
 // The state of a row, and the words opened to find it: at most d x (G + 2T + 1), in all d values, each from
 // its fence on.

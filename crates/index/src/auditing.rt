@@ -11,40 +11,21 @@ ghost use Rattle.lists.specs.Combine.{either, combined, apart};
 ghost use Rattle.blocks.specs.Audit.{soundLists};
 ghost use Rattle.blocks.specs.Block.{part, current};
 ghost use Rattle.blocks.specs.Shape.{fenceCount};
-ghost use Rattle.index.specs.Alter.{Suits, Fenced, blockIn, listIn};
+ghost use Rattle.steps.specs.Alter.{Fenced, blockIn, listIn};
 ghost use Rattle.index.specs.Calls.{auditOutcome};
-ghost use Rattle.index.specs.Entry.{Planned};
-ghost use Rattle.index.specs.Fences.{rightFences};
-ghost use Rattle.index.specs.Memory.{memoryOf, isSound};
-use crate::entry::Entry;
-use crate::entry::Plan;
-use crate::entry::enter_index;
+ghost use Rattle.steps.specs.Entry.{Planned};
+ghost use Rattle.steps.specs.Fences.{rightFences};
+ghost use Rattle.steps.specs.Memory.{memoryOf, isSound};
 use crate::fences::fences_right;
-use crate::header::Fence;
-use crate::header::Header;
 use answers::Answer;
 use answers::Refusal;
-use blocks::audit::sound_lists;
-use blocks::audit::take_value;
+use steps::audit::audit_lists;
+use steps::entry::Entry;
+use steps::entry::Plan;
+use steps::entry::enter_index;
+use steps::header::Fence;
+use steps::header::Header;
 use words::rows::GROUP_LIMIT;
-
-// Whether the lists of a value are sound and none of its rows is taken yet; they are then taken. `taken` has
-// the rows of the values before it. Where it answers false, `taken` is good for nothing.
-fn audit_lists(words: &[u32], taken: &mut [u32], plan: Plan, issued: u32, value: u32) -> bool
-    requires { ⌜ Suits plan (length (now words)) value × (issued ≤ plan .shape .rows) × Groups (now taken) × (plan .shape .groups ≤ length (now taken)) ⌝ }
-    ensures { λ r. ⌜ (r ≡ (soundLists (plan .shape) issued (blockIn plan (now (words .entry)) value)
-        && apart (take (plan .shape .groups) (now (taken .entry))) (current (plan .shape) (blockIn plan (now (words .entry)) value))))
-        × (r ≡ true → now (taken .exit)
-        ≡ combined either (take (plan .shape .groups) (now (taken .entry))) (current (plan .shape) (blockIn plan (now (words .entry)) value))
-        ++ drop (plan .shape .groups) (now (taken .entry))) ⌝ }
-{
-    let at = value as usize * plan.block;
-    let shape = plan.shape;
-    if !sound_lists(words, at, shape, issued) {
-        return false;
-    }
-    take_value(words, at, shape, taken)
-}
 
 // And whether its fences are right.
 fn audit_value(

@@ -2,73 +2,25 @@
 // rows are marked in an array of bytes of its own, since a row may turn out damaged at the very end.
 ghost use mathlib.Core.Path.{_≡_};
 ghost use mathlib.Core.Bool.{true};
-ghost use mathlib.Core.List.{_++_};
 ghost use Prim.Native.Nat.{_<_, _≤_};
-ghost use lib.ListN.{length, drop};
+ghost use lib.ListN.{length};
 ghost use Rattle.answers.specs.Outcome.{Gives};
-ghost use Rattle.words.specs.Rows.{rowLimit};
-ghost use Rattle.index.specs.Alter.{Suits, blockIn};
 ghost use Rattle.index.specs.Calls.{dumpOutcome};
-ghost use Rattle.index.specs.Dumping.{fencesFor, fenceHolds, fenceMarked, fencesHold, markedFences, valuesHold, markedValues, rowsGiven};
-ghost use Rattle.index.specs.Entry.{Planned};
-ghost use Rattle.index.specs.Memory.{memoryOf};
-use crate::entry::Entry;
-use crate::entry::Plan;
-use crate::entry::enter_index;
+ghost use Rattle.steps.specs.Dumping.{fencesFor, fencesHold, markedFences, valuesHold, markedValues};
+ghost use Rattle.steps.specs.Entry.{Planned};
+ghost use Rattle.steps.specs.Memory.{memoryOf};
 use crate::fences::fence_at;
-use crate::header::Fence;
-use crate::header::Header;
 use answers::Answer;
 use answers::Refusal;
-use blocks::dump::mark_span;
+use steps::dump::fences_for;
+use steps::dump::give_rows;
+use steps::dump::mark_fence;
+use steps::entry::Entry;
+use steps::entry::Plan;
+use steps::entry::enter_index;
+use steps::header::Fence;
+use steps::header::Header;
 use words::rows::ROW_LIMIT;
-use words::rows::groups_for;
-use words::rows::smaller;
-
-// How many fences of a value serve a row below `issued`.
-fn fences_for(issued: u32, spacing: u32) -> usize
-    requires { ⌜ (issued ≤ rowLimit) × (1 ≤ spacing) × (spacing ≤ 256) ⌝ }
-    ensures { λ r. ⌜ (r ≡ fencesFor issued spacing) × (r ≤ 4096) ⌝ }
-{
-    let groups = groups_for(issued as usize) as u32;
-    ((groups + (spacing - 1)) / spacing) as usize
-}
-
-// Gives the value to its rows below `issued` that its fence `j` serves; `rows` has a byte for each row,
-// 255 while no value has it. False if a read is broken or a row is in another value already: the bytes
-// are then good for nothing.
-fn mark_fence(
-    words: &[u32],
-    rows: &mut [u8],
-    plan: Plan,
-    fence: Fence,
-    issued: u32,
-    value: u32,
-    j: usize,
-) -> bool
-    requires { ⌜ Suits plan (length (now words)) value × (value < 256) × (issued ≤ plan .shape .rows) × (issued ≤ length (now rows))
-        × (j < fencesFor issued (plan .shape .spacing)) ⌝ }
-    ensures { λ r. ⌜ (r ≡ fenceHolds (plan .shape) (fence .place) (fence .first) (blockIn plan (now (words .entry)) value) issued j (now (rows .entry)))
-        × (r ≡ true → now (rows .exit)
-        ≡ fenceMarked (plan .shape) (fence .place) (fence .first) (blockIn plan (now (words .entry)) value) issued j value (now (rows .entry))) ⌝ }
-{
-    let shape = plan.shape;
-    let from = j as u32 * shape.spacing;
-    let to = smaller((from + shape.spacing) as usize, groups_for(issued as usize));
-    let at = value as usize * plan.block;
-    mark_span(
-        words,
-        rows,
-        at,
-        shape,
-        fence.place,
-        fence.first,
-        from,
-        to as u32,
-        issued,
-        value as u8,
-    )
-}
 
 // Marks the rows of one value. False if one of them is damaged.
 fn mark_value(
@@ -111,31 +63,6 @@ fn mark_values(words: &[u32], fences: &[Fence], rows: &mut [u8], header: Header,
         value = value + 1;
     }
     true
-}
-
-// Writes bytes over the front of an output; what is behind them stays.
-fn copy_rows(rows: &[u8], out: &mut [u8])
-    requires { ⌜ length (now rows) ≤ length (now out) ⌝ }
-    ensures { λ _. ⌜ now (out .exit) ≡ now (rows .entry) ++ drop (length (now (rows .entry))) (now (out .entry)) ⌝ }
-{
-    let mut i: usize = 0;
-    while i < rows.len() {
-        out[i] = rows[i];
-        i += 1;
-    }
-}
-
-// Gives the first `issued` of the rows, if the output has room for them.
-fn give_rows(rows: &[u8], out: &mut [u8], issued: u32) -> Answer
-    requires { ⌜ issued ≤ length (now rows) ⌝ }
-    ensures { λ r. ⌜ Gives (rowsGiven issued (now (rows .entry)) (now (out .entry))) r (now (out .exit)) ⌝ }
-{
-    let count = issued as usize;
-    if out.len() < count {
-        return Answer::Refused(Refusal::OutSmall);
-    }
-    copy_rows(&rows[..count], out);
-    Answer::Done(count)
 }
 
 // Dump of an index whose header and sizes hold.

@@ -5,13 +5,13 @@ ghost use Prim.Native.Nat.{_*_, _<_, _≤_};
 ghost use lib.ListN.{length, getD, set};
 ghost use Rattle.blocks.specs.Shape.{fenceCount};
 ghost use Rattle.blocks.specs.Block.{part, valueLength};
-ghost use Rattle.blocks.specs.Fences.{cursorAt, fenceAt};
-ghost use Rattle.index.specs.Alter.{Suits, Fenced, blockIn, listIn, renewedFences};
-ghost use Rattle.index.specs.Fences.{fence, noFence, isFence, rightFences, fenceBefore};
-use crate::entry::Plan;
-use crate::header::Fence;
-use blocks::fence::Cursor;
-use blocks::fence::next_fence;
+ghost use Rattle.steps.specs.Alter.{Fenced, blockIn, listIn, renewedFences};
+ghost use Rattle.steps.specs.Fences.{fence, noFence, rightFences};
+use steps::entry::Plan;
+use steps::fence::find_fence;
+use steps::fence::first_word;
+use steps::fence::is_fence;
+use steps::header::Fence;
 
 // The record at a place; a record of zeros past the last one lent.
 pub fn fence_at(fences: &[Fence], i: usize) -> Fence
@@ -30,35 +30,6 @@ pub fn put_fence(fences: &mut [Fence], i: usize, place: u32, first: u32)
     ensures { λ _. ⌜ now (fences .exit) ≡ set (now (fences .entry)) i (fence place first) ⌝ }
 {
     fences[i] = Fence { place, first };
-}
-
-// The first word of a list.
-fn first_word() -> Cursor
-    ensures { λ r. ⌜ r ≡ cursorAt 0 0 ⌝ }
-{
-    Cursor { place: 0, first: 0 }
-}
-
-// Fence j of a value's list, found from the fence before it on.
-fn find_fence(words: &[u32], plan: Plan, value: u32, before: Cursor, j: usize) -> Cursor
-    requires { ⌜ Suits plan (length (now words)) value × (valueLength (blockIn plan (now words) value) ≤ plan .shape .groups)
-        × (j < fenceCount (plan .shape)) × (before ≡ fenceBefore (plan .shape) (listIn plan (now words) value) j) ⌝ }
-    ensures { λ r. ⌜ r ≡ fenceAt (plan .shape) (listIn plan (now (words .entry)) value) j ⌝ }
-{
-    let at = value as usize * plan.block;
-    let group = j as u32 * plan.shape.spacing;
-    let shape = plan.shape;
-    next_fence(words, at, shape, before, group)
-}
-
-// Whether a record holds what it should.
-fn is_fence(cursor: Cursor, fence: Fence) -> bool
-    ensures { λ r. ⌜ r ≡ isFence cursor fence ⌝ }
-{
-    if cursor.place != fence.place {
-        return false;
-    }
-    cursor.first == fence.first
 }
 
 // Makes the fences of a value anew, in one pass over its list.

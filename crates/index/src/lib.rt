@@ -1,19 +1,15 @@
 // The index: a header by value, lent words and lent fence records, and the calls of document 01 over
 // them. Every call takes any header, any words and any records, and no caller has to check first.
 //
-// Below it stands `blocks`, which has everything that concerns one value. It knows nothing of histories
-// and programs.
-pub mod alter;
+// Below it stands `steps`, which has everything that a call does without a slice of fence records. It
+// knows nothing of histories and programs.
 pub mod answering;
 pub mod auditing;
 pub mod changing;
 pub mod dumping;
-pub mod entry;
 pub mod fences;
-pub mod header;
 pub mod loading;
 pub mod reading;
-pub mod row;
 
 pub use answering::query;
 pub use answering::value;

@@ -1,25 +1,17 @@
 // Document 01, "Reading one bit": a row in every value, each read from its fence on.
 ghost use mathlib.Core.Path.{_≡_};
-ghost use Prim.Native.Nat.{_+_, _*_, _/_, _<_};
 ghost use lib.ListN.{length};
-ghost use Rattle.index.specs.Entry.{Planned};
-ghost use Rattle.index.specs.Memory.{memoryOf};
-ghost use Rattle.index.specs.Reading.{rowOf};
-use crate::entry::Plan;
+ghost use Rattle.steps.specs.Entry.{Planned};
+ghost use Rattle.steps.specs.Memory.{memoryOf};
+ghost use Rattle.steps.specs.Reading.{rowOf};
 use crate::fences::fence_at;
-use crate::header::Fence;
-use crate::header::Header;
-use crate::row::Row;
-use crate::row::no_row;
-use crate::row::row_step;
-
-// Which of a value's fences serves a row: g div G, g being the row's group.
-fn fence_of(plan: Plan, row: u32) -> usize
-    requires { ⌜ 0 < plan .shape .spacing ⌝ }
-    ensures { λ r. ⌜ r ≡ row / 31 / plan .shape .spacing ⌝ }
-{
-    (row / 31 / plan.shape.spacing) as usize
-}
+use steps::entry::Plan;
+use steps::fence::fence_of;
+use steps::header::Fence;
+use steps::header::Header;
+use steps::row::Row;
+use steps::row::no_row;
+use steps::row::row_step;
 
 // Reads a row in all d values; it never stops at a hit.
 pub fn read_row(words: &[u32], fences: &[Fence], header: Header, plan: Plan, row: u32) -> Row

@@ -7,7 +7,7 @@ use Rattle.blocks.specs.Shape.{fenceCount}
 use Rattle.blocks.specs.Block.{part, write, valueWords, updateWords, valueList, updateList, current, padded, blockOf, zeroList}
 use Rattle.blocks.specs.Column.{listFor, loaded}
 use Rattle.blocks.specs.Whole.{updateOnes, wholeLists}
-use Rattle.index.specs.Memory.{limits, withinLimits, lent, blockAt, rowsIn}
+use Rattle.steps.specs.Memory.{limits, withinLimits, lent, blockAt, rowsIn}
 use Rattle.index.specs.Calls.{whole, withBlock, renewed, loadAfter, queryList, queryOutcome}
 use Rattle.print.specs.Frame.{isDigit, digitValue, lineIn, isFrame}
 use Rattle.print.specs.Text.{valueLine, refusalLine}

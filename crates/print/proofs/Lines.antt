@@ -15,9 +15,9 @@ use Rattle.answers.specs.declared.Answer.{Answer}
 use Rattle.answers.specs.declared.Refusal.{Refusal}
 use Rattle.answers.specs.declared.Refusal.the-variants.{BadFrame}
 use Rattle.answers.proofs.Accepted.{Passes, no-zero}
-use Rattle.index.specs.Memory.{Memory}
+use Rattle.steps.specs.Memory.{Memory}
 use Rattle.index.specs.Calls.{queryChecks, queryList, queryOutcome}
-use Rattle.index.specs.declared.header.Header.{Header}
+use Rattle.steps.specs.declared.header.Header.{Header}
 use Rattle.index.proofs.Planning.{one-more}
 use Rattle.print.specs.Frame.{isFrame, rowsIn, valuesIn, thresholdIn, spacingIn, columnIn}
 use Rattle.print.specs.Text.{valueLine, refusalLine}

@@ -14,11 +14,12 @@ use Rattle.answers.specs.declared.Refusal.the-variants.{BadFrame}
 use Rattle.answers.proofs.Accepted.{Passes}
 use Rattle.blocks.specs.Shape.{Limits, blockSize, fenceCount}
 use Rattle.blocks.proofs.WholeLists.{current-fits}
-use Rattle.index.specs.Memory.{Memory, limits, withinLimits, shapeOf, lent, blockAt, rowsIn}
-use Rattle.index.specs.Outcomes.{After, made, change}
-use Rattle.index.specs.Calls.{whole, queryList, queryChecks, noHeader, loadHeader, loadChecks, loadedIn, loadAfter}
-use Rattle.index.specs.declared.header.Header.{Header}
-use Rattle.index.proofs.Headers.{within, within-limits}
+use Rattle.steps.specs.Entry.{noHeader}
+use Rattle.steps.specs.Memory.{Memory, limits, withinLimits, shapeOf, lent, blockAt, rowsIn}
+use Rattle.steps.specs.Outcomes.{After, made, change}
+use Rattle.index.specs.Calls.{whole, queryList, queryChecks, loadHeader, loadChecks, loadedIn, loadAfter}
+use Rattle.steps.specs.declared.header.Header.{Header}
+use Rattle.steps.proofs.Headers.{within, within-limits}
 use Rattle.print.specs.Frame.{isFrame, rowsIn as rowsSaid, valuesIn, thresholdIn, spacingIn, columnIn}
 use Rattle.print.specs.Text.{refusalLine}
 use Rattle.print.specs.Printed.{cleared, queryLine, valueLines, loadLines, columnLines, frameLines}

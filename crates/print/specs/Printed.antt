@@ -5,11 +5,11 @@ use Prim.Native.Nat.{ℕ, zero, suc}
 use lib.ListN.{take, drop, replicate}
 use Rattle.answers.specs.Numbers.{Paper, numberOf}
 use Rattle.answers.specs.declared.Refusal.the-variants.{BadFrame}
-use Rattle.index.specs.Fences.{fence}
-use Rattle.index.specs.Memory.{Memory, memoryOf}
-use Rattle.index.specs.Outcomes.{After}
+use Rattle.steps.specs.Fences.{fence}
+use Rattle.steps.specs.Memory.{Memory, memoryOf}
+use Rattle.steps.specs.Outcomes.{After}
 use Rattle.index.specs.Calls.{loadAfter, queryOutcome}
-use Rattle.index.specs.declared.header.Header.{Header}
+use Rattle.steps.specs.declared.header.Header.{Header}
 use Rattle.print.specs.Frame.{lineIn, isFrame, rowsIn, valuesIn, thresholdIn, spacingIn, columnIn}
 use Rattle.print.specs.Text.{valueLine, refusalLine}
 

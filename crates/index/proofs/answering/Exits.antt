@@ -11,17 +11,17 @@ use Rattle.answers.specs.declared.Answer.{Answer}
 use Rattle.answers.specs.declared.Answer.the-variants.{Refused}
 use Rattle.answers.specs.declared.Refusal.{Refusal}
 use Rattle.answers.specs.declared.Refusal.the-variants.{Damaged, OutSmall}
-use Rattle.index.specs.Alter.{Suits, queryValue}
-use Rattle.index.specs.Entry.{Planned, enteredValue, enteredRow}
-use Rattle.index.specs.Memory.{Memory, memoryOf, blockAt, rowsIn}
-use Rattle.index.specs.Reading.{rowOf, refusedValue, valueOf, valuePaper}
+use Rattle.steps.specs.Alter.{Suits, queryValue}
+use Rattle.steps.specs.Entry.{Planned, enteredValue, enteredRow}
+use Rattle.steps.specs.Memory.{Memory, memoryOf, blockAt, rowsIn}
+use Rattle.steps.specs.Reading.{rowOf, refusedValue, valueOf, valuePaper}
 use Rattle.index.specs.Calls.{badValue, noRow, whole, queryList, queryOutcome, valueOutcome}
-use Rattle.index.specs.declared.header.Header.{Header}
-use Rattle.index.specs.declared.header.Fence.{Fence}
-use Rattle.index.specs.declared.entry.Plan.{Plan}
-use Rattle.index.specs.declared.entry.Entry.the-variants.{Ready, Stop}
-use Rattle.index.specs.declared.row.Row.{Row}
-use Rattle.index.specs.declared.row.Value.{Value}
+use Rattle.steps.specs.declared.header.Header.{Header}
+use Rattle.steps.specs.declared.header.Fence.{Fence}
+use Rattle.steps.specs.declared.entry.Plan.{Plan}
+use Rattle.steps.specs.declared.entry.Entry.the-variants.{Ready, Stop}
+use Rattle.steps.specs.declared.row.Row.{Row}
+use Rattle.steps.specs.declared.row.Value.{Value}
 use Rattle.index.proofs.Entries.{ready-enters, stop-outcome, ready-outcome, stop-value, ready-value}
 use Rattle.index.proofs.Planning.{suits}
 

@@ -10,13 +10,13 @@ use Rattle.answers.specs.Outcome.{_when_, Outcome}
 use Rattle.answers.specs.declared.Answer.the-variants.{Done, Refused}
 use Rattle.answers.specs.declared.Refusal.{Refusal}
 use Rattle.answers.specs.declared.Refusal.the-variants.{Damaged}
-use Rattle.index.specs.Entry.{Planned, enteredIndex}
-use Rattle.index.specs.Memory.{Memory, memoryOf, isSound}
+use Rattle.steps.specs.Entry.{Planned, enteredIndex}
+use Rattle.steps.specs.Memory.{Memory, memoryOf, isSound}
 use Rattle.index.specs.Calls.{auditOutcome}
-use Rattle.index.specs.declared.header.Header.{Header}
-use Rattle.index.specs.declared.header.Fence.{Fence}
-use Rattle.index.specs.declared.entry.Plan.{Plan}
-use Rattle.index.specs.declared.entry.Entry.the-variants.{Ready, Stop}
+use Rattle.steps.specs.declared.header.Header.{Header}
+use Rattle.steps.specs.declared.header.Fence.{Fence}
+use Rattle.steps.specs.declared.entry.Plan.{Plan}
+use Rattle.steps.specs.declared.entry.Entry.the-variants.{Ready, Stop}
 use Rattle.index.proofs.Entries.{ready-enters, stop-outcome, planned-lent}
 use Rattle.index.proofs.changing.Leaving.{is-false, is-true}
 

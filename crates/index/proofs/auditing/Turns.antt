@@ -15,13 +15,13 @@ use Rattle.blocks.specs.Audit.{soundLists}
 use Rattle.blocks.specs.Block.{part, valueLength, current}
 use Rattle.blocks.proofs.Sizes.{few-groups}
 use Rattle.blocks.proofs.SoundLists.{sound-parts}
-use Rattle.index.specs.Alter.{Fenced, blockIn, listIn}
-use Rattle.index.specs.Entry.{Planned}
-use Rattle.index.specs.Fences.{rightFences}
-use Rattle.index.specs.Memory.{Memory, memoryOf, withinLimits, shapeOf, lent, blockAt, rowsIn, fencesAt, soundValue, every, holdersOf, isSound}
-use Rattle.index.specs.declared.header.Header.{Header}
-use Rattle.index.specs.declared.header.Fence.{Fence}
-use Rattle.index.specs.declared.entry.Plan.{Plan}
+use Rattle.steps.specs.Alter.{Fenced, blockIn, listIn}
+use Rattle.steps.specs.Entry.{Planned}
+use Rattle.steps.specs.Fences.{rightFences}
+use Rattle.steps.specs.Memory.{Memory, memoryOf, withinLimits, shapeOf, lent, blockAt, rowsIn, fencesAt, soundValue, every, holdersOf, isSound}
+use Rattle.steps.specs.declared.header.Header.{Header}
+use Rattle.steps.specs.declared.header.Fence.{Fence}
+use Rattle.steps.specs.declared.entry.Plan.{Plan}
 use Rattle.index.proofs.Entries.{planned-lent}
 use Rattle.index.proofs.Every.{every-holds, holds-every}
 use Rattle.index.proofs.Planning.{one-more, numbers, limits, fenced}

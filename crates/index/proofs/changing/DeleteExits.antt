@@ -10,20 +10,20 @@ use borrow.Author.Tests.{leb-false}
 use Rattle.answers.specs.Outcome.{Check, _when_}
 use Rattle.answers.specs.declared.Refusal.{Refusal}
 use Rattle.answers.specs.declared.Refusal.the-variants.{Damaged}
-use Rattle.index.specs.Alter.{Fenced, isWhole, flipWords, flipFences}
-use Rattle.index.specs.Entry.{Planned, enteredRow}
-use Rattle.index.specs.Memory.{Memory, memoryOf}
-use Rattle.index.specs.Outcomes.{After, made, change, refusedBy, doneWith, Leaves}
-use Rattle.index.specs.Reading.{rowOf, holderOf}
+use Rattle.steps.specs.Alter.{Fenced, isWhole, flipWords, flipFences}
+use Rattle.steps.specs.Entry.{Planned, enteredRow}
+use Rattle.steps.specs.Memory.{Memory, memoryOf}
+use Rattle.steps.specs.Outcomes.{After, made, change, refusedBy, doneWith, Leaves}
+use Rattle.steps.specs.Reading.{rowOf, holderOf}
 use Rattle.index.specs.Calls.{noRow, whole, oldValue, flippedIn, deleteAfter}
-use Rattle.index.specs.declared.header.Header.{Header}
-use Rattle.index.specs.declared.header.Fence.{Fence}
-use Rattle.index.specs.declared.header.Changed.{Changed}
-use Rattle.index.specs.declared.entry.Plan.{Plan}
-use Rattle.index.specs.declared.entry.Entry.the-variants.{Ready, Stop}
-use Rattle.index.specs.declared.row.Row.{Row}
-use Rattle.index.specs.declared.row.Holder.the-variants.{Found, Lost}
-use Rattle.index.proofs.Altering.{flip-kept}
+use Rattle.steps.specs.declared.header.Header.{Header}
+use Rattle.steps.specs.declared.header.Fence.{Fence}
+use Rattle.steps.specs.declared.header.Changed.{Changed}
+use Rattle.steps.specs.declared.entry.Plan.{Plan}
+use Rattle.steps.specs.declared.entry.Entry.the-variants.{Ready, Stop}
+use Rattle.steps.specs.declared.row.Row.{Row}
+use Rattle.steps.specs.declared.row.Holder.the-variants.{Found, Lost}
+use Rattle.steps.proofs.Altering.{flip-kept}
 use Rattle.index.proofs.Entries.{Enters, ready-enters, ready-change}
 use Rattle.index.proofs.changing.Leaving.{refused-leaves, made-leaves, is-false, is-true, fences-kept, memory-flipped, stops, whole-is, holder-checks, lost, says, old-below, passed}
 use Rattle.index.proofs.Planning.{numbers, fenced}

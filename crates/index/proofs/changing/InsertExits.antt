@@ -9,19 +9,19 @@ use borrow.Author.Tests.{leb-false}
 use Rattle.answers.specs.Outcome.{Check, _when_}
 use Rattle.answers.specs.declared.Refusal.{Refusal}
 use Rattle.answers.specs.declared.Refusal.the-variants.{Full, Damaged}
-use Rattle.index.specs.Alter.{Fenced, isWhole, flipWords, flipFences}
-use Rattle.index.specs.Entry.{Planned, enteredInsert}
-use Rattle.index.specs.Memory.{Memory, memoryOf}
-use Rattle.index.specs.Outcomes.{After, made, change, refusedBy, doneWith, Leaves}
-use Rattle.index.specs.Reading.{rowOf, isFree}
-use Rattle.index.specs.Calls.{badValue, whole, grown, flippedIn, insertAfter}
-use Rattle.index.specs.declared.header.Header.{Header}
-use Rattle.index.specs.declared.header.Fence.{Fence}
-use Rattle.index.specs.declared.header.Changed.{Changed}
-use Rattle.index.specs.declared.entry.Plan.{Plan}
-use Rattle.index.specs.declared.entry.Entry.the-variants.{Ready, Stop}
-use Rattle.index.specs.declared.row.Row.{Row}
-use Rattle.index.proofs.Altering.{flip-kept}
+use Rattle.steps.specs.Alter.{Fenced, isWhole, flipWords, flipFences}
+use Rattle.steps.specs.Entry.{Planned, enteredInsert, grown}
+use Rattle.steps.specs.Memory.{Memory, memoryOf}
+use Rattle.steps.specs.Outcomes.{After, made, change, refusedBy, doneWith, Leaves}
+use Rattle.steps.specs.Reading.{rowOf, isFree}
+use Rattle.index.specs.Calls.{badValue, whole, flippedIn, insertAfter}
+use Rattle.steps.specs.declared.header.Header.{Header}
+use Rattle.steps.specs.declared.header.Fence.{Fence}
+use Rattle.steps.specs.declared.header.Changed.{Changed}
+use Rattle.steps.specs.declared.entry.Plan.{Plan}
+use Rattle.steps.specs.declared.entry.Entry.the-variants.{Ready, Stop}
+use Rattle.steps.specs.declared.row.Row.{Row}
+use Rattle.steps.proofs.Altering.{flip-kept}
 use Rattle.index.proofs.Entries.{Enters, ready-enters, ready-change}
 use Rattle.index.proofs.changing.Leaving.{refused-leaves, made-leaves, is-false, is-true, fences-kept, memory-flipped, stops, whole-is}
 use Rattle.index.proofs.Planning.{fenced}

@@ -9,23 +9,23 @@ use borrow.Author.Tests.{eqb-false}
 use Rattle.answers.specs.Outcome.{Check, _when_}
 use Rattle.answers.specs.declared.Refusal.{Refusal}
 use Rattle.answers.specs.declared.Refusal.the-variants.{Damaged, Gone}
-use Rattle.index.specs.Alter.{isWhole, flipWords, flipFences}
-use Rattle.index.specs.Entry.{planOf}
-use Rattle.index.specs.Memory.{Memory, memoryOf}
-use Rattle.index.specs.Outcomes.{After, made, change, refusedBy, doneWith, Leaves}
-use Rattle.index.specs.Reading.{rowOf, isDamaged, isDeleted, holderOf}
+use Rattle.steps.specs.Alter.{isWhole, flipWords, flipFences}
+use Rattle.steps.specs.Entry.{planOf}
+use Rattle.steps.specs.Memory.{Memory, memoryOf}
+use Rattle.steps.specs.Outcomes.{After, made, change, refusedBy, doneWith, Leaves}
+use Rattle.steps.specs.Reading.{rowOf, isDamaged, isDeleted, holderOf}
 use Rattle.index.specs.Calls.{whole, flippedIn}
-use Rattle.index.specs.declared.header.Header.{Header}
-use Rattle.index.specs.declared.header.Fence.{Fence}
-use Rattle.index.specs.declared.header.Changed.{Changed}
-use Rattle.index.specs.declared.entry.Plan.{Plan}
-use Rattle.index.specs.declared.entry.Entry.the-variants.{Stop}
-use Rattle.index.specs.declared.row.Row.{Row}
-use Rattle.index.specs.declared.row.Holder.the-variants.{Found, Lost}
+use Rattle.steps.specs.declared.header.Header.{Header}
+use Rattle.steps.specs.declared.header.Fence.{Fence}
+use Rattle.steps.specs.declared.header.Changed.{Changed}
+use Rattle.steps.specs.declared.entry.Plan.{Plan}
+use Rattle.steps.specs.declared.entry.Entry.the-variants.{Stop}
+use Rattle.steps.specs.declared.row.Row.{Row}
+use Rattle.steps.specs.declared.row.Holder.the-variants.{Found, Lost}
 use Rattle.index.proofs.Entries.{callChecks, entryOf, stop-change}
 use Rattle.index.proofs.MemoryLeft.{same-whole, flipped-memory}
 use Rattle.index.proofs.Refusing.{refusedChange}
-use Rattle.index.proofs.RowLaws.{row-value}
+use Rattle.steps.proofs.RowLaws.{row-value}
 
 -- ---- what a change leaves, by its two kinds
 

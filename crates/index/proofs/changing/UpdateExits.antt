@@ -10,25 +10,25 @@ use borrow.Author.Tests.{leb-false, eqb-false}
 use Rattle.answers.specs.Outcome.{Check, _when_}
 use Rattle.answers.specs.declared.Refusal.{Refusal}
 use Rattle.answers.specs.declared.Refusal.the-variants.{Damaged}
-use Rattle.index.specs.Alter.{Suits, Fenced, isWhole, moveWords, moveFences}
-use Rattle.index.specs.Entry.{planOf, Planned, enteredUpdate}
-use Rattle.index.specs.Memory.{Memory, memoryOf}
-use Rattle.index.specs.Outcomes.{After, made, change, refusedBy, doneWith, Leaves}
-use Rattle.index.specs.Reading.{rowOf, holderOf}
+use Rattle.steps.specs.Alter.{Suits, Fenced, isWhole, moveWords, moveFences}
+use Rattle.steps.specs.Entry.{planOf, Planned, enteredUpdate}
+use Rattle.steps.specs.Memory.{Memory, memoryOf}
+use Rattle.steps.specs.Outcomes.{After, made, change, refusedBy, doneWith, Leaves}
+use Rattle.steps.specs.Reading.{rowOf, holderOf}
 use Rattle.index.specs.Calls.{badValue, noRow, whole, oldValue, flippedIn, updateAfter}
-use Rattle.index.specs.declared.header.Header.{Header}
-use Rattle.index.specs.declared.header.Fence.{Fence}
-use Rattle.index.specs.declared.header.Changed.{Changed}
-use Rattle.index.specs.declared.entry.Plan.{Plan}
-use Rattle.index.specs.declared.entry.Entry.the-variants.{Ready, Stop}
-use Rattle.index.specs.declared.row.Row.{Row}
-use Rattle.index.specs.declared.row.Holder.the-variants.{Found, Lost}
+use Rattle.steps.specs.declared.header.Header.{Header}
+use Rattle.steps.specs.declared.header.Fence.{Fence}
+use Rattle.steps.specs.declared.header.Changed.{Changed}
+use Rattle.steps.specs.declared.entry.Plan.{Plan}
+use Rattle.steps.specs.declared.entry.Entry.the-variants.{Ready, Stop}
+use Rattle.steps.specs.declared.row.Row.{Row}
+use Rattle.steps.specs.declared.row.Holder.the-variants.{Found, Lost}
 use Rattle.index.proofs.Entries.{Enters, ready-enters, ready-change}
 use Rattle.index.proofs.MemoryLeft.{moved-memory}
 use Rattle.index.proofs.changing.Leaving.{refused-leaves, made-leaves, is-false, is-true, stops, whole-is, holder-checks, lost, says, old-below, passed}
 use Rattle.walks.proofs.Flow.{holds}
 use Rattle.index.proofs.Planning.{numbers, fenced}
-use Rattle.index.proofs.alter.Moving.{move-kept}
+use Rattle.steps.proofs.alter.Moving.{move-kept}
 
 -- ---- a move, as the call has it
 

@@ -12,15 +12,15 @@ use Rattle.answers.specs.declared.Answer.the-variants.{Refused}
 use Rattle.answers.specs.declared.Refusal.{Refusal}
 use Rattle.answers.specs.declared.Refusal.the-variants.{Damaged, OutSmall}
 use Rattle.words.specs.Rows.{rowLimit}
-use Rattle.index.specs.Entry.{Planned, enteredIndex}
-use Rattle.index.specs.Dumping.{valuesHold, markedValues, rowsGiven}
-use Rattle.index.specs.Memory.{Memory, memoryOf, every}
-use Rattle.index.specs.Reading.{rowOf, isDamaged}
+use Rattle.steps.specs.Entry.{Planned, enteredIndex}
+use Rattle.steps.specs.Dumping.{valuesHold, markedValues, rowsGiven}
+use Rattle.steps.specs.Memory.{Memory, memoryOf, every}
+use Rattle.steps.specs.Reading.{rowOf, isDamaged}
 use Rattle.index.specs.Calls.{bytesOf, dumpOutcome}
-use Rattle.index.specs.declared.header.Header.{Header}
-use Rattle.index.specs.declared.header.Fence.{Fence}
-use Rattle.index.specs.declared.entry.Plan.{Plan}
-use Rattle.index.specs.declared.entry.Entry.the-variants.{Ready, Stop}
+use Rattle.steps.specs.declared.header.Header.{Header}
+use Rattle.steps.specs.declared.header.Fence.{Fence}
+use Rattle.steps.specs.declared.entry.Plan.{Plan}
+use Rattle.steps.specs.declared.entry.Entry.the-variants.{Ready, Stop}
 use Rattle.index.proofs.DumpLaws.{dump-holds, dump-bytes}
 use Rattle.index.proofs.Entries.{ready-enters, stop-outcome, planned-lent}
 use Rattle.index.proofs.Planning.{numbers}

@@ -7,14 +7,14 @@ use native.Mathlib.Omega.{arith}
 use lib.Dec.{T}
 use lib.ListN.{length, getD}
 use Rattle.words.specs.Rows.{rowLimit}
-use Rattle.index.specs.Entry.{Planned}
-use Rattle.index.specs.Alter.{Suits, blockIn}
-use Rattle.index.specs.Dumping.{fencesFor, fenceHolds, fenceMarked, fenceNumber, fencesHold, markedFences, valuesHold, markedValues}
-use Rattle.index.specs.Fences.{noFence}
-use Rattle.index.specs.Memory.{Memory, memoryOf}
-use Rattle.index.specs.declared.header.Header.{Header}
-use Rattle.index.specs.declared.header.Fence.{Fence}
-use Rattle.index.specs.declared.entry.Plan.{Plan}
+use Rattle.steps.specs.Entry.{Planned}
+use Rattle.steps.specs.Alter.{Suits, blockIn}
+use Rattle.steps.specs.Dumping.{fencesFor, fenceHolds, fenceMarked, fenceNumber, fencesHold, markedFences, valuesHold, markedValues}
+use Rattle.steps.specs.Fences.{noFence}
+use Rattle.steps.specs.Memory.{Memory, memoryOf}
+use Rattle.steps.specs.declared.header.Header.{Header}
+use Rattle.steps.specs.declared.header.Fence.{Fence}
+use Rattle.steps.specs.declared.entry.Plan.{Plan}
 use Rattle.index.proofs.DumpLaws.{next-fence-holds, next-fence-marked, fences-stop, next-value-holds, next-value-marked, values-stop}
 use Rattle.index.proofs.Planning.{numbers, suits, fences-bound}
 use Rattle.index.proofs.changing.Leaving.{is-false, is-true}

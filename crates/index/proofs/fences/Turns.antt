@@ -14,11 +14,11 @@ use Rattle.blocks.specs.Block.{part, write}
 use Rattle.blocks.specs.Fences.{fenceAt}
 use Rattle.blocks.specs.declared.fence.Cursor.{Cursor}
 use Rattle.blocks.proofs.Parts.{length-part, getD-part, write-part, write-more}
-use Rattle.index.specs.Alter.{Suits, listIn, renewedFences}
-use Rattle.index.specs.Fences.{fence, noFence, fencesFrom, fenceBefore, isFence, rightFences}
-use Rattle.index.specs.declared.header.Fence.{Fence}
-use Rattle.index.specs.declared.entry.Plan.{Plan}
-use Rattle.index.proofs.FenceRecords.{length-fencesFrom, one-fence-more, all-right, one-wrong}
+use Rattle.steps.specs.Alter.{Suits, listIn, renewedFences}
+use Rattle.steps.specs.Fences.{fence, noFence, fencesFrom, fenceBefore, isFence, rightFences}
+use Rattle.steps.specs.declared.header.Fence.{Fence}
+use Rattle.steps.specs.declared.entry.Plan.{Plan}
+use Rattle.steps.proofs.FenceRecords.{length-fencesFrom, one-fence-more, all-right, one-wrong}
 use Rattle.walks.proofs.Flow.{fails}
 use Rattle.index.proofs.Planning.{one-more}
 

@@ -12,16 +12,16 @@ use Rattle.answers.specs.declared.Refusal.{Refusal}
 use Rattle.answers.specs.declared.Refusal.the-variants.{BadHeader, Small, BadValue, Full}
 use Rattle.answers.proofs.Accepted.{Passes}
 use Rattle.blocks.specs.Shape.{blockSize, fenceCount}
-use Rattle.index.specs.Entry.{planOf, Planned, headerFor, validColumn, enteredIndex, enteredLoad}
-use Rattle.index.specs.Memory.{Memory, memoryOf, limits, withinLimits, shapeOf, lent}
-use Rattle.index.specs.Outcomes.{After, made, refusedBy, doneWith, Leaves}
-use Rattle.index.specs.Calls.{noHeader, loadHeader, loadChecks, loadedIn, loadAfter}
-use Rattle.index.specs.declared.header.Header.{Header}
-use Rattle.index.specs.declared.header.Fence.{Fence}
-use Rattle.index.specs.declared.header.Changed.{Changed}
-use Rattle.index.specs.declared.entry.Plan.{Plan}
-use Rattle.index.specs.declared.entry.Entry.the-variants.{Ready, Stop}
-use Rattle.index.proofs.Headers.{within}
+use Rattle.steps.specs.Entry.{planOf, Planned, headerFor, validColumn, enteredIndex, enteredLoad, noHeader}
+use Rattle.steps.specs.Memory.{Memory, memoryOf, limits, withinLimits, shapeOf, lent}
+use Rattle.steps.specs.Outcomes.{After, made, refusedBy, doneWith, Leaves}
+use Rattle.index.specs.Calls.{loadHeader, loadChecks, loadedIn, loadAfter}
+use Rattle.steps.specs.declared.header.Header.{Header}
+use Rattle.steps.specs.declared.header.Fence.{Fence}
+use Rattle.steps.specs.declared.header.Changed.{Changed}
+use Rattle.steps.specs.declared.entry.Plan.{Plan}
+use Rattle.steps.specs.declared.entry.Entry.the-variants.{Ready, Stop}
+use Rattle.steps.proofs.Headers.{within}
 use Rattle.index.proofs.Refusing.{ready-passes, passes-read, stop-read, refusedChange, change-refuses}
 use Rattle.index.proofs.changing.Leaving.{refused-leaves, made-leaves}
 

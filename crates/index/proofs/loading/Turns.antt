@@ -8,14 +8,14 @@ use lib.ListN.{length}
 use Rattle.blocks.specs.Block.{valueLength}
 use Rattle.blocks.specs.Column.{loaded}
 use Rattle.blocks.proofs.Columns.{length-loaded, whole-loaded}
-use Rattle.index.specs.Entry.{Planned}
-use Rattle.index.specs.Alter.{Suits, Fenced, blockIn, putBlock, isWhole, renewedFences}
-use Rattle.index.specs.Memory.{Memory, memoryOf, blockAt}
+use Rattle.steps.specs.Entry.{Planned}
+use Rattle.steps.specs.Alter.{Suits, Fenced, blockIn, putBlock, isWhole, renewedFences}
+use Rattle.steps.specs.Memory.{Memory, memoryOf, blockAt}
 use Rattle.index.specs.Calls.{withBlock, renewed, loadedIn}
-use Rattle.index.specs.declared.header.Header.{Header}
-use Rattle.index.specs.declared.header.Fence.{Fence}
-use Rattle.index.specs.declared.entry.Plan.{Plan}
-use Rattle.index.proofs.Altering.{put-block}
+use Rattle.steps.specs.declared.header.Header.{Header}
+use Rattle.steps.specs.declared.header.Fence.{Fence}
+use Rattle.steps.specs.declared.entry.Plan.{Plan}
+use Rattle.steps.proofs.Altering.{put-block}
 use Rattle.index.proofs.Planning.{one-more, numbers, suits, fenced}
 use Rattle.index.proofs.changing.Steps.{whole-short, still-fenced}
 

@@ -6,17 +6,17 @@ use native.Mathlib.Nat.{div-le-self}
 use native.Mathlib.Omega.{arith}
 use lib.ListN.{length, getD}
 use Rattle.blocks.specs.Read.{readGroup}
-use Rattle.index.specs.Entry.{Planned}
-use Rattle.index.specs.Alter.{Suits, blockIn}
-use Rattle.index.specs.Fences.{noFence}
-use Rattle.index.specs.Memory.{Memory, memoryOf, blockAt}
-use Rattle.index.specs.Reading.{fenceFor, readIn, rowStep, readRow, rowOf}
-use Rattle.index.specs.declared.header.Header.{Header}
-use Rattle.index.specs.declared.header.Fence.{Fence}
-use Rattle.index.specs.declared.entry.Plan.{Plan}
-use Rattle.index.specs.declared.row.Row.{Row}
+use Rattle.steps.specs.Entry.{Planned}
+use Rattle.steps.specs.Alter.{Suits, blockIn}
+use Rattle.steps.specs.Fences.{noFence}
+use Rattle.steps.specs.Memory.{Memory, memoryOf, blockAt}
+use Rattle.steps.specs.Reading.{fenceFor, readIn, rowStep, readRow, rowOf}
+use Rattle.steps.specs.declared.header.Header.{Header}
+use Rattle.steps.specs.declared.header.Fence.{Fence}
+use Rattle.steps.specs.declared.entry.Plan.{Plan}
+use Rattle.steps.specs.declared.row.Row.{Row}
 use Rattle.index.proofs.Planning.{one-more, numbers, limits, suits, fences-bound}
-use Rattle.index.proofs.RowLaws.{row-fits}
+use Rattle.steps.proofs.RowLaws.{row-fits}
 
 module _ {header : Header} {plan : Plan} (words : List ℕ) (fences : List Fence) (is : Planned header plan (length words) (length fences)) where
   abbrev memory : Memory

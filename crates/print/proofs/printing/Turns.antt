@@ -7,10 +7,10 @@ use lib.Seq.{sets}
 use Rattle.answers.specs.Numbers.{paper}
 use Rattle.answers.specs.Outcome.{Gives}
 use Rattle.answers.specs.declared.Answer.{Answer}
-use Rattle.index.specs.Memory.{Memory, memoryOf}
+use Rattle.steps.specs.Memory.{Memory, memoryOf}
 use Rattle.index.specs.Calls.{queryOutcome}
-use Rattle.index.specs.declared.header.Header.{Header}
-use Rattle.index.specs.declared.header.Fence.{Fence}
+use Rattle.steps.specs.declared.header.Header.{Header}
+use Rattle.steps.specs.declared.header.Fence.{Fence}
 use Rattle.print.specs.Printed.{answerLine, queryLine, valueLines}
 use Rattle.print.proofs.Lines.{asked-count, asked-line, line-fits, line-added}
 

@@ -38,14 +38,14 @@ use denote.Triple.Table.{entered, cited}
 use denote.Triple.Walked.{Stays, stay-dropped, walkOf, Walks, ends-at, walked, goes-dropped, walk-meets}
 use Rattle.answers.specs.Numbers.{paper}
 use Rattle.index.specs.Calls.{auditOutcome}
-use Rattle.index.specs.Memory.{memoryOf}
+use Rattle.steps.specs.Memory.{memoryOf}
 use Rattle.answers.proofs.Answer as Answer-T
 use Rattle.answers.proofs.Answer.Laws as Answer-L
-use Rattle.index.specs.declared.header.Fence.{Fence}
-use Rattle.index.proofs.header.Fence as Fence-T
-use Rattle.index.specs.declared.header.Header.{Header}
-use Rattle.index.proofs.header.Header as Header-T
-use Rattle.index.proofs.header.Header.Laws as Header-L
+use Rattle.steps.specs.declared.header.Fence.{Fence}
+use Rattle.steps.proofs.header.Fence as Fence-T
+use Rattle.steps.specs.declared.header.Header.{Header}
+use Rattle.steps.proofs.header.Header as Header-T
+use Rattle.steps.proofs.header.Header.Laws as Header-L
 use Rattle.walks.proofs.Lend.{ref}
 use Rattle.walks.proofs.Flow.{told-enum, frees-all, empties}
 use Rattle.walks.proofs.Calls.{contractOf, calls-plain, calls-shr-shr}

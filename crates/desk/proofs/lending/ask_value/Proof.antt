@@ -35,16 +35,16 @@ use denote.Triple.Spec.{Meets, tripleOf}
 use denote.Triple.Statement.{Triple}
 use denote.Triple.Table.{entered, cited}
 use denote.Triple.Walked.{Stays, stay-dropped, walkOf, Walks, ends-at, walked, goes-dropped, walk-meets}
-use Rattle.index.specs.Memory.{memoryOf}
-use Rattle.index.specs.Reading.{valuePaper}
+use Rattle.steps.specs.Memory.{memoryOf}
+use Rattle.steps.specs.Reading.{valuePaper}
 use Rattle.index.specs.Calls.{valueOutcome}
-use Rattle.index.specs.declared.header.Fence.{Fence}
-use Rattle.index.proofs.header.Fence as Fence-T
-use Rattle.index.specs.declared.header.Header.{Header}
-use Rattle.index.proofs.header.Header as Header-T
-use Rattle.index.proofs.header.Header.Laws as Header-L
-use Rattle.index.proofs.row.Value as Value-T
-use Rattle.index.proofs.row.Value.Laws as Value-L
+use Rattle.steps.specs.declared.header.Fence.{Fence}
+use Rattle.steps.proofs.header.Fence as Fence-T
+use Rattle.steps.specs.declared.header.Header.{Header}
+use Rattle.steps.proofs.header.Header as Header-T
+use Rattle.steps.proofs.header.Header.Laws as Header-L
+use Rattle.steps.proofs.row.Value as Value-T
+use Rattle.steps.proofs.row.Value.Laws as Value-L
 use Rattle.walks.proofs.Lend.{ref}
 use Rattle.walks.proofs.Flow.{told, frees-all, empties}
 use Rattle.walks.proofs.Calls.{contractOf, calls-plain, calls-shr-shr}

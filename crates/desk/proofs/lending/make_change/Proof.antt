@@ -38,20 +38,20 @@ use denote.Triple.Spec.{Meets, tripleOf}
 use denote.Triple.Statement.{Triple}
 use denote.Triple.Table.{entered, cited}
 use denote.Triple.Walked.{Stays, stay-slice, stay-dropped, walkOf, Walks, ends-at, walked, goes-slice, goes-dropped, walk-meets}
-use Rattle.index.specs.Memory.{memoryOf}
-use Rattle.index.specs.Outcomes.{Leaves}
+use Rattle.steps.specs.Memory.{memoryOf}
+use Rattle.steps.specs.Outcomes.{Leaves}
 use Rattle.index.specs.Calls.{mergeAfter, insertAfter, deleteAfter, updateAfter}
 use Rattle.desk.proofs.lending.Change as Change-T
 use Rattle.desk.proofs.lending.Change.Laws as Change-L
 use Rattle.desk.specs.declared.lending.Change.the-variants.{Inserts, Updates, Deletes, Merges}
-use Rattle.index.specs.declared.header.Changed.{Changed}
-use Rattle.index.proofs.header.Changed as Changed-T
-use Rattle.index.proofs.header.Changed.Laws as Changed-L
-use Rattle.index.specs.declared.header.Fence.{Fence}
-use Rattle.index.proofs.header.Fence as Fence-T
-use Rattle.index.specs.declared.header.Header.{Header}
-use Rattle.index.proofs.header.Header as Header-T
-use Rattle.index.proofs.header.Header.Laws as Header-L
+use Rattle.steps.specs.declared.header.Changed.{Changed}
+use Rattle.steps.proofs.header.Changed as Changed-T
+use Rattle.steps.proofs.header.Changed.Laws as Changed-L
+use Rattle.steps.specs.declared.header.Fence.{Fence}
+use Rattle.steps.proofs.header.Fence as Fence-T
+use Rattle.steps.specs.declared.header.Header.{Header}
+use Rattle.steps.proofs.header.Header as Header-T
+use Rattle.steps.proofs.header.Header.Laws as Header-L
 use Rattle.desk.specs.declared.orders.Order.{Order}
 use Rattle.desk.proofs.orders.Order as Order-T
 use Rattle.desk.proofs.orders.Order.Laws as Order-L

@@ -43,8 +43,8 @@ use denote.Triple.Walked.{Stays, stay-slice, stay-dropped, walkOf, Walks, ends-a
 use Rattle.desk.proofs.columns.Counted as Counted-T
 use Rattle.desk.proofs.columns.Counted.Laws as Counted-L
 use Rattle.desk.specs.declared.columns.Counted.the-variants.{Count, Wrong}
-use Rattle.index.specs.declared.header.Fence.{Fence}
-use Rattle.index.proofs.header.Fence as Fence-T
+use Rattle.steps.specs.declared.header.Fence.{Fence}
+use Rattle.steps.proofs.header.Fence as Fence-T
 use Rattle.desk.specs.declared.lent.Lent.{Lent}
 use Rattle.desk.proofs.lent.Lent as Lent-T
 use Rattle.desk.proofs.lent.Lent.Laws as Lent-L

@@ -41,10 +41,10 @@ use denote.Triple.Statement.{Triple}
 use denote.Triple.Table.{entered, cited}
 use denote.Triple.Walked.{says, Stays, stay-dropped, walkOf, Walks, ends-at, walked, goes-dropped, walk-meets}
 use Rattle.desk.proofs.Parts.{place-fits}
-use Rattle.index.specs.Fences.{noFence}
-use Rattle.index.specs.declared.header.Fence.{Fence}
-use Rattle.index.proofs.header.Fence as Fence-T
-use Rattle.index.proofs.header.Fence.Laws as Fence-L
+use Rattle.steps.specs.Fences.{noFence}
+use Rattle.steps.specs.declared.header.Fence.{Fence}
+use Rattle.steps.proofs.header.Fence as Fence-T
+use Rattle.steps.proofs.header.Fence.Laws as Fence-L
 use Rattle.walks.proofs.Lend.{ref}
 use Rattle.walks.proofs.Flow.{Nearer, Nearer-wf, told, while-loops, assigns-again, frees-all, below-word, next-le, next-nearer, empties, big-lit, widen-32-64}
 use Rattle.walks.proofs.Local.{repeats, lend-array, back-array}

@@ -40,8 +40,8 @@ use denote.Triple.Walked.{Stays, stay-slice, walkOf, Walks, ends-at, walked, goe
 use Rattle.desk.specs.declared.serve.Console.{Console}
 use Rattle.desk.proofs.serve.Console as Console-T
 use Rattle.desk.proofs.serve.Console.Laws as Console-L
-use Rattle.index.specs.declared.header.Fence.{Fence}
-use Rattle.index.proofs.header.Fence as Fence-T
+use Rattle.steps.specs.declared.header.Fence.{Fence}
+use Rattle.steps.proofs.header.Fence as Fence-T
 use Rattle.walks.proofs.Lend.{ref}
 use Rattle.walks.proofs.Flow.{Nearer, Nearer-wf, told, tests, while-loops, assigns-again, turn-returns, frees-all, below-word, next-le, next-nearer, empties}
 use Rattle.walks.proofs.Calls.{contractOf, calls-mut-mut-mut, calls-plain}

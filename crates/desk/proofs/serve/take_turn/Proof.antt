@@ -38,8 +38,8 @@ use denote.Triple.Walked.{Stays, stay-slice, stay-dropped, walkOf, Walks, ends-a
 use Rattle.desk.specs.declared.serve.Console.{Console}
 use Rattle.desk.proofs.serve.Console as Console-T
 use Rattle.desk.proofs.serve.Console.Laws as Console-L
-use Rattle.index.specs.declared.header.Fence.{Fence}
-use Rattle.index.proofs.header.Fence as Fence-T
+use Rattle.steps.specs.declared.header.Fence.{Fence}
+use Rattle.steps.proofs.header.Fence as Fence-T
 use Rattle.desk.proofs.lent.Lent as Lent-T
 use Rattle.desk.proofs.lent.Lent.Laws as Lent-L
 use Rattle.desk.proofs.input.Waiting as Waiting-T

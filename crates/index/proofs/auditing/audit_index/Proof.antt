@@ -42,21 +42,21 @@ use denote.Triple.Table.{entered, cited}
 use denote.Triple.Walked.{says, needs, Stays, stay-dropped, walkOf, Walks, ends-at, walked, goes-dropped, walk-meets}
 use Rattle.answers.specs.Numbers.{paper}
 use Rattle.index.specs.Calls.{auditOutcome}
-use Rattle.index.specs.Entry.{Planned}
-use Rattle.index.specs.Memory.{memoryOf, isSound}
+use Rattle.steps.specs.Entry.{Planned}
+use Rattle.steps.specs.Memory.{memoryOf, isSound}
 use Rattle.index.proofs.auditing.Exits.{audit-damaged, audit-done}
 use Rattle.answers.specs.declared.Answer.{Answer}
 use Rattle.answers.proofs.Answer as Answer-T
 use Rattle.answers.proofs.Answer.Laws as Answer-L
 use Rattle.answers.specs.declared.Answer.the-variants.{Done, Refused}
-use Rattle.index.specs.declared.header.Fence.{Fence}
-use Rattle.index.proofs.header.Fence as Fence-T
-use Rattle.index.specs.declared.header.Header.{Header}
-use Rattle.index.proofs.header.Header as Header-T
-use Rattle.index.proofs.header.Header.Laws as Header-L
-use Rattle.index.specs.declared.entry.Plan.{Plan}
-use Rattle.index.proofs.entry.Plan as Plan-T
-use Rattle.index.proofs.entry.Plan.Laws as Plan-L
+use Rattle.steps.specs.declared.header.Fence.{Fence}
+use Rattle.steps.proofs.header.Fence as Fence-T
+use Rattle.steps.specs.declared.header.Header.{Header}
+use Rattle.steps.proofs.header.Header as Header-T
+use Rattle.steps.proofs.header.Header.Laws as Header-L
+use Rattle.steps.specs.declared.entry.Plan.{Plan}
+use Rattle.steps.proofs.entry.Plan as Plan-T
+use Rattle.steps.proofs.entry.Plan.Laws as Plan-L
 use Rattle.answers.proofs.Refusal as Refusal-T
 use Rattle.answers.proofs.Refusal.Laws as Refusal-L
 use Rattle.answers.specs.declared.Refusal.the-variants.{Damaged}

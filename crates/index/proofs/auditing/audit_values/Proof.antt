@@ -45,19 +45,19 @@ use Rattle.lists.specs.Combine.{either, combined, apart}
 use Rattle.blocks.specs.Audit.{soundLists}
 use Rattle.blocks.specs.Block.{part, current}
 use Rattle.blocks.specs.Shape.{fenceCount}
-use Rattle.index.specs.Alter.{Fenced, blockIn, listIn}
-use Rattle.index.specs.Entry.{Planned}
-use Rattle.index.specs.Fences.{rightFences}
-use Rattle.index.specs.Memory.{memoryOf, isSound}
+use Rattle.steps.specs.Alter.{Fenced, blockIn, listIn}
+use Rattle.steps.specs.Entry.{Planned}
+use Rattle.steps.specs.Fences.{rightFences}
+use Rattle.steps.specs.Memory.{memoryOf, isSound}
 use Rattle.index.proofs.auditing.Turns.{Audited, none-audited, value-asks, value-fails, value-audited, all-audited}
-use Rattle.index.specs.declared.header.Fence.{Fence}
-use Rattle.index.proofs.header.Fence as Fence-T
-use Rattle.index.specs.declared.header.Header.{Header}
-use Rattle.index.proofs.header.Header as Header-T
-use Rattle.index.proofs.header.Header.Laws as Header-L
-use Rattle.index.specs.declared.entry.Plan.{Plan}
-use Rattle.index.proofs.entry.Plan as Plan-T
-use Rattle.index.proofs.entry.Plan.Laws as Plan-L
+use Rattle.steps.specs.declared.header.Fence.{Fence}
+use Rattle.steps.proofs.header.Fence as Fence-T
+use Rattle.steps.specs.declared.header.Header.{Header}
+use Rattle.steps.proofs.header.Header as Header-T
+use Rattle.steps.proofs.header.Header.Laws as Header-L
+use Rattle.steps.specs.declared.entry.Plan.{Plan}
+use Rattle.steps.proofs.entry.Plan as Plan-T
+use Rattle.steps.proofs.entry.Plan.Laws as Plan-L
 use Rattle.walks.proofs.Lend.{ref}
 use Rattle.walks.proofs.Flow.{Nearer, Nearer-wf, tests, while-loops, assigns-again, turn-returns, frees-all, below-word, next-le, next-nearer}
 use Rattle.walks.proofs.Calls.{contractOf, calls-shr-shr-mut}

@@ -39,31 +39,31 @@ use denote.Triple.Statement.{Triple}
 use denote.Triple.Table.{entered, cited}
 use denote.Triple.Walked.{says, Stays, stay-slice, stay-dropped, walkOf, Walks, ends-at, walked, goes-slice, goes-dropped, walk-meets}
 use Rattle.blocks.specs.Block.{valueLength}
-use Rattle.index.specs.Alter.{Fenced, blockIn, Suits, mergeAlter, mergeWords, renewedFences}
-use Rattle.index.specs.Memory.{memoryOf}
-use Rattle.index.specs.Outcomes.{Leaves, refusedBy, doneWith}
+use Rattle.steps.specs.Alter.{Fenced, blockIn, Suits, mergeAlter, mergeWords, renewedFences}
+use Rattle.steps.specs.Memory.{memoryOf}
+use Rattle.steps.specs.Outcomes.{Leaves, refusedBy, doneWith}
 use Rattle.index.specs.Calls.{mergeAfter}
-use Rattle.index.proofs.alter.Answers.{merge-never-keeps}
+use Rattle.steps.proofs.alter.Answers.{merge-never-keeps}
 use Rattle.index.proofs.changing.MergeExits.{merge-stops, merge-fenced, merge-refused, merge-done}
 use Rattle.index.proofs.changing.Steps.{merge-asks}
-use Rattle.index.specs.Entry.{enteredValue}
-use Rattle.index.proofs.alter.Alter as Alter-T
-use Rattle.index.proofs.alter.Alter.Laws as Alter-L
-use Rattle.index.specs.declared.alter.Alter.the-variants.{Fails, Keeps, Renews}
-use Rattle.index.specs.declared.header.Changed.{Changed}
-use Rattle.index.proofs.header.Changed as Changed-T
-use Rattle.index.proofs.header.Changed.Laws as Changed-L
-use Rattle.index.proofs.entry.Entry as Entry-T
-use Rattle.index.proofs.entry.Entry.Laws as Entry-L
-use Rattle.index.specs.declared.entry.Entry.the-variants.{Ready, Stop}
-use Rattle.index.specs.declared.header.Fence.{Fence}
-use Rattle.index.proofs.header.Fence as Fence-T
-use Rattle.index.specs.declared.header.Header.{Header}
-use Rattle.index.proofs.header.Header as Header-T
-use Rattle.index.proofs.header.Header.Laws as Header-L
-use Rattle.index.specs.declared.entry.Plan.{Plan}
-use Rattle.index.proofs.entry.Plan as Plan-T
-use Rattle.index.proofs.entry.Plan.Laws as Plan-L
+use Rattle.steps.specs.Entry.{enteredValue}
+use Rattle.steps.proofs.alter.Alter as Alter-T
+use Rattle.steps.proofs.alter.Alter.Laws as Alter-L
+use Rattle.steps.specs.declared.alter.Alter.the-variants.{Fails, Keeps, Renews}
+use Rattle.steps.specs.declared.header.Changed.{Changed}
+use Rattle.steps.proofs.header.Changed as Changed-T
+use Rattle.steps.proofs.header.Changed.Laws as Changed-L
+use Rattle.steps.proofs.entry.Entry as Entry-T
+use Rattle.steps.proofs.entry.Entry.Laws as Entry-L
+use Rattle.steps.specs.declared.entry.Entry.the-variants.{Ready, Stop}
+use Rattle.steps.specs.declared.header.Fence.{Fence}
+use Rattle.steps.proofs.header.Fence as Fence-T
+use Rattle.steps.specs.declared.header.Header.{Header}
+use Rattle.steps.proofs.header.Header as Header-T
+use Rattle.steps.proofs.header.Header.Laws as Header-L
+use Rattle.steps.specs.declared.entry.Plan.{Plan}
+use Rattle.steps.proofs.entry.Plan as Plan-T
+use Rattle.steps.proofs.entry.Plan.Laws as Plan-L
 use Rattle.answers.specs.declared.Refusal.{Refusal}
 use Rattle.answers.proofs.Refusal as Refusal-T
 use Rattle.answers.proofs.Refusal.Laws as Refusal-L
@@ -71,26 +71,26 @@ use Rattle.answers.specs.declared.Refusal.the-variants.{Damaged}
 use Rattle.walks.proofs.Lend.{ref}
 use Rattle.walks.proofs.Flow.{told, matches, frees-all}
 use Rattle.walks.proofs.Calls.{contractOf, calls-mut, calls-plain, calls-plain-last, calls-view-mut}
-use Rattle.index.proofs.entry.enter_value as enter-value-F
-use Rattle.index.proofs.entry.enter_value.Symbol as enter-value-def
-use Rattle.index.proofs.entry.enter_value.Symbol.{name as #index·enter-value}
-use Rattle.index.proofs.entry.enter_value.Met as enter-value-thm
-use Rattle.index.proofs.alter.merge_value as merge-value-F
-use Rattle.index.proofs.alter.merge_value.Symbol as merge-value-def
-use Rattle.index.proofs.alter.merge_value.Symbol.{name as #index·merge-value}
-use Rattle.index.proofs.alter.merge_value.Met as merge-value-thm
-use Rattle.index.proofs.header.refuse as refuse-F
-use Rattle.index.proofs.header.refuse.Symbol as refuse-def
-use Rattle.index.proofs.header.refuse.Symbol.{name as #index·refuse}
-use Rattle.index.proofs.header.refuse.Met as refuse-thm
+use Rattle.steps.proofs.entry.enter_value as enter-value-F
+use Rattle.steps.proofs.entry.enter_value.Symbol as enter-value-def
+use Rattle.steps.proofs.entry.enter_value.Symbol.{name as #steps·enter-value}
+use Rattle.steps.proofs.entry.enter_value.Met as enter-value-thm
+use Rattle.steps.proofs.alter.merge_value as merge-value-F
+use Rattle.steps.proofs.alter.merge_value.Symbol as merge-value-def
+use Rattle.steps.proofs.alter.merge_value.Symbol.{name as #steps·merge-value}
+use Rattle.steps.proofs.alter.merge_value.Met as merge-value-thm
+use Rattle.steps.proofs.header.refuse as refuse-F
+use Rattle.steps.proofs.header.refuse.Symbol as refuse-def
+use Rattle.steps.proofs.header.refuse.Symbol.{name as #steps·refuse}
+use Rattle.steps.proofs.header.refuse.Met as refuse-thm
 use Rattle.index.proofs.fences.renew as renew-F
 use Rattle.index.proofs.fences.renew.Symbol as renew-def
 use Rattle.index.proofs.fences.renew.Symbol.{name as #index·renew}
 use Rattle.index.proofs.fences.renew.Met as renew-thm
-use Rattle.index.proofs.header.done as done-F
-use Rattle.index.proofs.header.done.Symbol as done-def
-use Rattle.index.proofs.header.done.Symbol.{name as #index·done}
-use Rattle.index.proofs.header.done.Met as done-thm
+use Rattle.steps.proofs.header.done as done-F
+use Rattle.steps.proofs.header.done.Symbol as done-def
+use Rattle.steps.proofs.header.done.Symbol.{name as #steps·done}
+use Rattle.steps.proofs.header.done.Met as done-thm
 use Rattle.index.proofs.changing.merge.Key.{name as #index·index-changing-merge}
 use Rattle.index.proofs.changing.merge as index-changing-merge-F
 use Rattle.index.proofs.changing.merge.Statement as stated
@@ -140,7 +140,7 @@ module _ {M : Type 1} (𝓤 : URA M) (H : Heap 𝓤) (A : Atoms 𝓤) (W : Given
       suffices ! _ (ends-at 𝓤 H A index-changing-merge-F.ended stayed (index-changing-merge-F.clauses 𝓤 H A mem run) W bound-of u r (words′, (fences′, (tt, (tt, tt)))) (n-words′, (n-fences′, (tt, (tt, tt))))) $ says ! e $
       nothing ! $ move ! (3 ∷ 0 ∷ []) $ join ! $ move ! (1 ∷ 0 ∷ []) $ join ! $ frame ! $ nothing ! $ nothing ! $ fjoin ! $ nothing ! $ fjoin ! $ move ! (2 ∷ 0 ∷ []) $ fjoin ! $ move ! (1 ∷ 0 ∷ []) $ fjoin ! $ frame ! $ owned ! Changed-T.the-row (Is Changed-T.the-row) (SL.makes Changed-T.the-type Changed-L.the-plain 𝓤 H A) r _ is $ done !
 
-  module _ (𝓣 : Tables 𝓤 H) (fm : FmC 𝓤 H (W .laws) (𝓣 .C)) (known-enter-value : Triple 𝓤 (𝓣 .C #index·enter-value) (contractOf 𝓤 H A enter-value-F.ended (enter-value-F.clauses 𝓤 H A mem run))) (known-merge-value : Triple 𝓤 (𝓣 .C #index·merge-value) (contractOf 𝓤 H A merge-value-F.ended (merge-value-F.clauses 𝓤 H A mem run))) (known-refuse : Triple 𝓤 (𝓣 .C #index·refuse) (contractOf 𝓤 H A refuse-F.ended (refuse-F.clauses 𝓤 H A mem run))) (known-renew : Triple 𝓤 (𝓣 .C #index·renew) (contractOf 𝓤 H A renew-F.ended (renew-F.clauses 𝓤 H A mem run))) (known-done : Triple 𝓤 (𝓣 .C #index·done) (contractOf 𝓤 H A done-F.ended (done-F.clauses 𝓤 H A mem run))) where
+  module _ (𝓣 : Tables 𝓤 H) (fm : FmC 𝓤 H (W .laws) (𝓣 .C)) (known-enter-value : Triple 𝓤 (𝓣 .C #steps·enter-value) (contractOf 𝓤 H A enter-value-F.ended (enter-value-F.clauses 𝓤 H A mem run))) (known-merge-value : Triple 𝓤 (𝓣 .C #steps·merge-value) (contractOf 𝓤 H A merge-value-F.ended (merge-value-F.clauses 𝓤 H A mem run))) (known-refuse : Triple 𝓤 (𝓣 .C #steps·refuse) (contractOf 𝓤 H A refuse-F.ended (refuse-F.clauses 𝓤 H A mem run))) (known-renew : Triple 𝓤 (𝓣 .C #index·renew) (contractOf 𝓤 H A renew-F.ended (renew-F.clauses 𝓤 H A mem run))) (known-done : Triple 𝓤 (𝓣 .C #steps·done) (contractOf 𝓤 H A done-F.ended (done-F.clauses 𝓤 H A mem run))) where
     walk : Room u32 (length words) → Room Fence-T.the-row (length fences) → Is Header-T.the-row header (SL.vals Header-T.the-type Header-L.the-laws header) → value < 2 ^ 32 → ent 𝓤 (onEntry 𝓤 H A index-changing-merge-F.signature (κ₀, (κ₁, tt)) (q₀, (q₁, tt)) args-of vals-of) (WpFn 𝓤 H (𝓣 .C) (𝓣 .Λ) code.function (sliceVal (b₀, o₀) (length words) ∷ sliceVal (b₁, o₁) (length fences) ∷ SL.val Header-T.the-type Header-L.the-laws header ∷ vint w32 value ∷ []) Post)
     walk room-words room-fences is-header fit-value =
         qed W ((‵ (flft κ₀ q₀) ⊛ (‵ (flft κ₁ q₁) ⊛ ‵ ftrue)) ∷ ‵ (owns (MutSlice (named 0) κ₀ u32 ∷ MutSlice (named 1) κ₁ Fence-T.the-row ∷ Header-T.the-row ∷ u32 ∷ []) args-of vals-of) ∷ []) ∵ enter ! (𝓣 .C) (𝓣 .Λ) code.function (sliceVal (b₀, o₀) (length words) ∷ sliceVal (b₁, o₁) (length fences) ∷ SL.val Header-T.the-type Header-L.the-laws header ∷ vint w32 value ∷ []) _ $
@@ -150,7 +150,7 @@ module _ {M : Type 1} (𝓤 : URA M) (H : Heap 𝓤) (A : Atoms 𝓤) (W : Given
         -- [words's token; words; fences's token; fences; _19; …; _0; …]
         assigns ! (of-opd ! (load ! (from ! (fld ! refl (stop !))) (look-in ! 40 (sub ! 1 refl (whole !))))) (from ! (stop !)) (init ! 26 refl (tt, record { fits = (room-words .0) })) $
         assigns ! (of-opd ! (load ! (from ! (fld ! refl (stop !))) (look-in ! 38 (sub ! 1 refl (whole !))))) (from ! (stop !)) (init ! 24 refl (tt, record { fits = (room-fences .0) })) $
-        -- enter_value
+        -- steps::entry::enter_value
         calls-plain ! fm Entry-T.the-row (plain (λ _. usize) ∷ plain (λ _. usize) ∷ plain (λ _. Header-T.the-row) ∷ plain (λ _. u32) ∷ []) (yes, (yes, (yes, (yes, tt)))) (enter-value-F.clauses 𝓤 H A mem run) known-enter-value
         (λ κs. (length words, (length fences, (header, (value, tt))))) (λ κs. (vint w64 (length words) ∷ [], (vint w64 (length fences) ∷ [], (SL.val Header-T.the-type Header-L.the-laws header ∷ [], (vint w32 value ∷ [], tt))))) (λ κs. owns-make 𝓤 H A (usize ∷ usize ∷ Header-T.the-row ∷ u32 ∷ []) (Ises (usize ∷ usize ∷ Header-T.the-row ∷ u32 ∷ [])) (uint-makes 𝓤 H A W w64, (uint-makes 𝓤 H A W w64, (SL.makes Header-T.the-type Header-L.the-plain 𝓤 H A, (uint-makes 𝓤 H A W w32, tt)))) (length words, (length fences, (header, (value, tt)))) (vint w64 (length words) ∷ [], (vint w64 (length fences) ∷ [], (SL.val Header-T.the-type Header-L.the-laws header ∷ [], (vint w32 value ∷ [], tt)))) ((refl, (room-words .0)), ((refl, (room-fences .0)), (is-header, ((refl, fit-value), tt))))) (λ κs. tt) (λ κs. id⊢ 𝓤 _)
         (λ r1. r1 ≡ enteredValue (length words) (length fences) header value) (λ κs r1 ws. id⊢ 𝓤 _) (λ κs. (and-then ! (load ! (from ! (stop !)) (look ! 27 refl)) (and-then ! (load ! (from ! (stop !)) (look ! 25 refl)) (and-then ! (load ! (from ! (stop !)) (look ! 37 refl)) (and-then ! (load ! (from ! (stop !)) (look ! 35 refl)) (no-more !))))))
@@ -161,7 +161,7 @@ module _ {M : Type 1} (𝓤 : URA M) (H : Heap 𝓤) (A : Atoms 𝓤) (W : Given
               assigns ! (of-opd ! (load ! (from ! (vrt ! refl (fld ! refl (stop !)))) (look-in ! 28 (in-variant ! 0 0 refl refl (whole !))))) (from ! (stop !)) (init ! 30 refl (SL.lawful Plan-T.the-type Plan-L.the-laws 𝓤 H A W .typed r1-0 (SL.vals Plan-T.the-type Plan-L.the-laws r1-0) (EL.owed Entry-T.the-type Entry-L.the-laws (Ready r1-0) _ is1 .0) .0)) $
               assigns ! (addr ! (from ! (fld ! refl (hop ! (look-in ! 40 (sub ! 0 refl (whole !))) (stop !))))) (from ! (stop !)) (init ! 18 refl (tt, tt)) $
               assigns ! (agg ! (and-then ! (load ! (from ! (stop !)) (look ! 18 refl)) (and-then ! (load ! (from ! (fld ! refl (stop !))) (look-in ! 40 (sub ! 1 refl (whole !)))) (no-more !)))) (from ! (stop !)) (init ! 16 refl (tt, (tt, (record { fits = room-words .0 }, tt)))) $
-              -- merge_value
+              -- steps::alter::merge_value
               calls-mut ! fm u32 Alter-T.the-row (plain (λ _. Plan-T.the-row) ∷ plain (λ _. u32) ∷ []) (yes, (yes, tt)) (merge-value-F.clauses 𝓤 H A mem run) known-merge-value b₀ o₀ γ₀ words (length words) refl
               (λ κs. (r1-0, (value, tt))) (λ κs. (SL.val Plan-T.the-type Plan-L.the-laws r1-0 ∷ [], (vint w32 value ∷ [], tt))) (λ κs. owns-make 𝓤 H A (Plan-T.the-row ∷ u32 ∷ []) (Ises (Plan-T.the-row ∷ u32 ∷ [])) (SL.makes Plan-T.the-type Plan-L.the-plain 𝓤 H A, (uint-makes 𝓤 H A W w32, tt)) (r1-0, (value, tt)) (SL.val Plan-T.the-type Plan-L.the-laws r1-0 ∷ [], (vint w32 value ∷ [], tt)) ((EL.owed Entry-T.the-type Entry-L.the-laws (Ready r1-0) _ is1 .0), ((refl, fit-value), tt))) (λ κs δ₀. tt) (λ κs δ₀. factI 𝓤 (Suits r1-0 (length words) value) (emp 𝓤) (call-2 words fences header value r1-0 e1))
               (λ r2 words2. (r2 ≡ mergeAlter r1-0 words value) × (words2 ≡ mergeWords r1-0 words value)) (λ κs δ₀ r2 ws. id⊢ 𝓤 _) (λ κs δ₀. (and-then ! (load ! (from ! (stop !)) (look ! 16 refl)) (and-then ! (load ! (from ! (stop !)) (look ! 30 refl)) (and-then ! (load ! (from ! (stop !)) (look ! 34 refl)) (no-more !)))))
@@ -171,7 +171,7 @@ module _ {M : Type 1} (𝓤 : URA M) (H : Heap 𝓤) (A : Atoms 𝓤) (W : Given
                     matches ! (load ! (from ! (vrt ! refl (fld ! refl (stop !)))) (look-tag ! 20 (whole !))) tt (λ on2.
                     let made-1 : Is Refusal-T.the-row Damaged (EL.vals Refusal-T.the-type Refusal-L.the-laws Damaged) = EL.owes Refusal-T.the-type Refusal-L.the-laws Damaged tt in
                     assigns ! (agg ! (and-then ! (lit ! tt) (no-more !))) (from ! (stop !)) (init ! 14 refl (EL.lawful Refusal-T.the-type Refusal-L.the-laws 𝓤 H A W tt .typed Damaged (EL.vals Refusal-T.the-type Refusal-L.the-laws Damaged) made-1 .0)) $
-                    -- refuse
+                    -- steps::header::refuse
                     calls-plain ! fm Changed-T.the-row (plain (λ _. Header-T.the-row) ∷ plain (λ _. Refusal-T.the-row) ∷ []) (yes, (yes, tt)) (refuse-F.clauses 𝓤 H A mem run) known-refuse
                     (λ κs. (header, (Damaged, tt))) (λ κs. (SL.val Header-T.the-type Header-L.the-laws header ∷ [], (EL.val Refusal-T.the-type Refusal-L.the-laws Damaged ∷ [], tt))) (λ κs. owns-make 𝓤 H A (Header-T.the-row ∷ Refusal-T.the-row ∷ []) (Ises (Header-T.the-row ∷ Refusal-T.the-row ∷ [])) (SL.makes Header-T.the-type Header-L.the-plain 𝓤 H A, (EL.makes Refusal-T.the-type Refusal-L.the-plain 𝓤 H A, tt)) (header, (Damaged, tt)) (SL.val Header-T.the-type Header-L.the-laws header ∷ [], (EL.val Refusal-T.the-type Refusal-L.the-laws Damaged ∷ [], tt)) (is-header, (made-1, tt))) (λ κs. tt) (λ κs. id⊢ 𝓤 _)
                     (λ r3. r3 ≡ refusedBy header Damaged) (λ κs r3 ws. id⊢ 𝓤 _) (λ κs. (and-then ! (load ! (from ! (stop !)) (look ! 37 refl)) (and-then ! (load ! (from ! (stop !)) (look ! 15 refl)) (no-more !))))
@@ -185,7 +185,7 @@ module _ {M : Type 1} (𝓤 : URA M) (H : Heap 𝓤) (A : Atoms 𝓤) (W : Given
                     matches ! (load ! (from ! (vrt ! refl (fld ! refl (stop !)))) (look-tag ! 20 (whole !))) tt (λ on3.
                     let made-2 : Is Refusal-T.the-row Damaged (EL.vals Refusal-T.the-type Refusal-L.the-laws Damaged) = EL.owes Refusal-T.the-type Refusal-L.the-laws Damaged tt in
                     assigns ! (agg ! (and-then ! (lit ! tt) (no-more !))) (from ! (stop !)) (init ! 14 refl (EL.lawful Refusal-T.the-type Refusal-L.the-laws 𝓤 H A W tt .typed Damaged (EL.vals Refusal-T.the-type Refusal-L.the-laws Damaged) made-2 .0)) $
-                    -- refuse
+                    -- steps::header::refuse
                     calls-plain ! fm Changed-T.the-row (plain (λ _. Header-T.the-row) ∷ plain (λ _. Refusal-T.the-row) ∷ []) (yes, (yes, tt)) (refuse-F.clauses 𝓤 H A mem run) known-refuse
                     (λ κs. (header, (Damaged, tt))) (λ κs. (SL.val Header-T.the-type Header-L.the-laws header ∷ [], (EL.val Refusal-T.the-type Refusal-L.the-laws Damaged ∷ [], tt))) (λ κs. owns-make 𝓤 H A (Header-T.the-row ∷ Refusal-T.the-row ∷ []) (Ises (Header-T.the-row ∷ Refusal-T.the-row ∷ [])) (SL.makes Header-T.the-type Header-L.the-plain 𝓤 H A, (EL.makes Refusal-T.the-type Refusal-L.the-plain 𝓤 H A, tt)) (header, (Damaged, tt)) (SL.val Header-T.the-type Header-L.the-laws header ∷ [], (EL.val Refusal-T.the-type Refusal-L.the-laws Damaged ∷ [], tt)) (is-header, (made-2, tt))) (λ κs. tt) (λ κs. id⊢ 𝓤 _)
                     (λ r4. r4 ≡ refusedBy header Damaged) (λ κs r4 ws. id⊢ 𝓤 _) (λ κs. (and-then ! (load ! (from ! (stop !)) (look ! 37 refl)) (and-then ! (load ! (from ! (stop !)) (look ! 15 refl)) (no-more !))))
@@ -208,7 +208,7 @@ module _ {M : Type 1} (𝓤 : URA M) (H : Heap 𝓤) (A : Atoms 𝓤) (W : Given
                     (λ r5 fences5. fences5 ≡ renewedFences r1-0 words2 fences value) (λ κs δ₀ δ₁ r5 ws. id⊢ 𝓤 _) (λ κs δ₀ δ₁. (and-then ! (load ! (from ! (stop !)) (look ! 8 refl)) (and-then ! (load ! (from ! (stop !)) (look ! 4 refl)) (and-then ! (load ! (from ! (stop !)) (look ! 30 refl)) (and-then ! (load ! (from ! (stop !)) (look ! 34 refl)) (no-more !))))))
                     (λ u5 r5 fences5 n-fences5 e5 is5.
                     land ! (from ! (stop !)) (init ! 12 refl (nothing-lawful 𝓤 H A W .typed r5 _ is5 .0)) $
-                    -- done
+                    -- steps::header::done
                     calls-plain-last ! fm Changed-T.the-row (plain (λ _. Header-T.the-row) ∷ []) (yes, tt) (done-F.clauses 𝓤 H A mem run) known-done
                     (λ κs. (header, tt)) (λ κs. (SL.val Header-T.the-type Header-L.the-laws header ∷ [], tt)) (λ κs. owns-make 𝓤 H A (Header-T.the-row ∷ []) (Ises (Header-T.the-row ∷ [])) (SL.makes Header-T.the-type Header-L.the-plain 𝓤 H A, tt) (header, tt) (SL.val Header-T.the-type Header-L.the-laws header ∷ [], tt) (is-header, tt)) (λ κs. tt) (λ κs. id⊢ 𝓤 _)
                     (λ r6. r6 ≡ doneWith header 0) (λ κs r6 ws. id⊢ 𝓤 _) (λ κs. (and-then ! (load ! (from ! (stop !)) (look ! 37 refl)) (no-more !)))
@@ -224,7 +224,7 @@ module _ {M : Type 1} (𝓤 : URA M) (H : Heap 𝓤) (A : Atoms 𝓤) (W : Given
               land ! (from ! (stop !)) (init ! 28 refl (EL.lawful Entry-T.the-type Entry-L.the-laws 𝓤 H A W tt .typed (Stop r1-0) _ is1 .0)) $ rewrite ! 28 (λ (w : Val). ‵ (fat fullShare (Entry-L.mir) l₇ 0 w)) (ap only (EL.tells Entry-T.the-type Entry-L.the-laws (Stop r1-0) _ is1)) refl $
               matches ! (load ! (from ! (vrt ! refl (fld ! refl (stop !)))) (look-tag ! 28 (whole !))) tt (λ on5.
               assigns ! (of-opd ! (load ! (from ! (vrt ! refl (fld ! refl (stop !)))) (look-in ! 28 (in-variant ! 1 0 refl refl (whole !))))) (from ! (stop !)) (init ! 32 refl (EL.lawful Refusal-T.the-type Refusal-L.the-laws 𝓤 H A W tt .typed r1-0 (EL.vals Refusal-T.the-type Refusal-L.the-laws r1-0) (EL.owed Entry-T.the-type Entry-L.the-laws (Stop r1-0) _ is1 .0) .0)) $
-              -- refuse
+              -- steps::header::refuse
               calls-plain-last ! fm Changed-T.the-row (plain (λ _. Header-T.the-row) ∷ plain (λ _. Refusal-T.the-row) ∷ []) (yes, (yes, tt)) (refuse-F.clauses 𝓤 H A mem run) known-refuse
               (λ κs. (header, (r1-0, tt))) (λ κs. (SL.val Header-T.the-type Header-L.the-laws header ∷ [], (EL.val Refusal-T.the-type Refusal-L.the-laws r1-0 ∷ [], tt))) (λ κs. owns-make 𝓤 H A (Header-T.the-row ∷ Refusal-T.the-row ∷ []) (Ises (Header-T.the-row ∷ Refusal-T.the-row ∷ [])) (SL.makes Header-T.the-type Header-L.the-plain 𝓤 H A, (EL.makes Refusal-T.the-type Refusal-L.the-plain 𝓤 H A, tt)) (header, (r1-0, tt)) (SL.val Header-T.the-type Header-L.the-laws header ∷ [], (EL.val Refusal-T.the-type Refusal-L.the-laws r1-0 ∷ [], tt)) (is-header, ((EL.owed Entry-T.the-type Entry-L.the-laws (Stop r1-0) _ is1 .0), tt))) (λ κs. tt) (λ κs. id⊢ 𝓤 _)
               (λ r7. r7 ≡ refusedBy header r1-0) (λ κs r7 ws. id⊢ 𝓤 _) (λ κs. (and-then ! (load ! (from ! (stop !)) (look ! 37 refl)) (and-then ! (load ! (from ! (stop !)) (look ! 33 refl)) (no-more !))))
@@ -238,12 +238,12 @@ module _ {M : Type 1} (𝓤 : URA M) (H : Heap 𝓤) (A : Atoms 𝓤) (W : Given
         ])))))))))))))))))))))
 
 module _ {M : Type 1} (𝓤 : URA M) (H : Heap 𝓤) (A : Atoms 𝓤) (W : Given 𝓤 H A) (mem : Memory → SProp 𝓤) (run : Routine → Fun 𝓤) where
-  merge-walks : (𝓣 : Tables 𝓤 H) → Triple 𝓤 (𝓣 .C #index·enter-value) (contractOf 𝓤 H A enter-value-F.ended (enter-value-F.clauses 𝓤 H A mem run)) → Triple 𝓤 (𝓣 .C #index·merge-value) (contractOf 𝓤 H A merge-value-F.ended (merge-value-F.clauses 𝓤 H A mem run)) → Triple 𝓤 (𝓣 .C #index·refuse) (contractOf 𝓤 H A refuse-F.ended (refuse-F.clauses 𝓤 H A mem run)) → Triple 𝓤 (𝓣 .C #index·renew) (contractOf 𝓤 H A renew-F.ended (renew-F.clauses 𝓤 H A mem run)) → Triple 𝓤 (𝓣 .C #index·done) (contractOf 𝓤 H A done-F.ended (done-F.clauses 𝓤 H A mem run)) → Walks 𝓤 H A index-changing-merge-F.ended stayed (WpFn 𝓤 H (𝓣 .C) (𝓣 .Λ) code.function) (index-changing-merge-F.clauses 𝓤 H A mem run)
+  merge-walks : (𝓣 : Tables 𝓤 H) → Triple 𝓤 (𝓣 .C #steps·enter-value) (contractOf 𝓤 H A enter-value-F.ended (enter-value-F.clauses 𝓤 H A mem run)) → Triple 𝓤 (𝓣 .C #steps·merge-value) (contractOf 𝓤 H A merge-value-F.ended (merge-value-F.clauses 𝓤 H A mem run)) → Triple 𝓤 (𝓣 .C #steps·refuse) (contractOf 𝓤 H A refuse-F.ended (refuse-F.clauses 𝓤 H A mem run)) → Triple 𝓤 (𝓣 .C #index·renew) (contractOf 𝓤 H A renew-F.ended (renew-F.clauses 𝓤 H A mem run)) → Triple 𝓤 (𝓣 .C #steps·done) (contractOf 𝓤 H A done-F.ended (done-F.clauses 𝓤 H A mem run)) → Walks 𝓤 H A index-changing-merge-F.ended stayed (WpFn 𝓤 H (𝓣 .C) (𝓣 .Λ) code.function) (index-changing-merge-F.clauses 𝓤 H A mem run)
   merge-walks 𝓣 known-enter-value known-merge-value known-refuse known-renew known-done =
       walked 𝓤 H A index-changing-merge-F.ended stayed (index-changing-merge-F.clauses 𝓤 H A mem run) (WpFn 𝓤 H (𝓣 .C) (𝓣 .Λ) code.function) (λ κs. (slice-vals, (slice-vals, (SL.vals Header-T.the-type Header-L.the-laws, (uint-vals w32, tt))))) (λ κs. (mut-slice-tells (named 0) (κs .0) u32, (mut-slice-tells (named 1) (κs .1 .0) Fence-T.the-row, (SL.tells Header-T.the-type Header-L.the-laws, (uint-tells w32, tt)))))
       (λ κs qs bounds a g are. via 𝓤 _ (fst∗ 𝓤 _ (emp 𝓤)) (walk 𝓤 H A W mem run (κs .0) (κs .1 .0) (qs .0) (qs .1 .0) (a .0 .ptr .0) (a .0 .ptr .1) (a .0 .name) (a .0 .now) (a .1 .0 .ptr .0) (a .1 .0 .ptr .1) (a .1 .0 .name) (a .1 .0 .now) (a .1 .1 .0) (a .1 .1 .1 .0) 𝓣 (fmOf 𝓤 H (W .laws) 𝓣) known-enter-value known-merge-value known-refuse known-renew known-done (are .0 .0 .1) (are .1 .0 .0 .1) (are .1 .1 .0) (are .1 .1 .1 .0 .1)))
 
-merge-meets : {M : Type 1} (𝓤 : URA M) (H : Heap 𝓤) (A : Atoms 𝓤) (W : Given 𝓤 H A) (mem : Memory → SProp 𝓤) (run : Routine → Fun 𝓤) (𝓣 : Tables 𝓤 H) → Triple 𝓤 (𝓣 .C #index·enter-value) (contractOf 𝓤 H A enter-value-F.ended (enter-value-F.clauses 𝓤 H A mem run)) → Triple 𝓤 (𝓣 .C #index·merge-value) (contractOf 𝓤 H A merge-value-F.ended (merge-value-F.clauses 𝓤 H A mem run)) → Triple 𝓤 (𝓣 .C #index·refuse) (contractOf 𝓤 H A refuse-F.ended (refuse-F.clauses 𝓤 H A mem run)) → Triple 𝓤 (𝓣 .C #index·renew) (contractOf 𝓤 H A renew-F.ended (renew-F.clauses 𝓤 H A mem run)) → Triple 𝓤 (𝓣 .C #index·done) (contractOf 𝓤 H A done-F.ended (done-F.clauses 𝓤 H A mem run)) → Meets 𝓤 H A index-changing-merge-F.signature (WpFn 𝓤 H (𝓣 .C) (𝓣 .Λ) code.function) (index-changing-merge-F.spec 𝓤 H A mem run)
+merge-meets : {M : Type 1} (𝓤 : URA M) (H : Heap 𝓤) (A : Atoms 𝓤) (W : Given 𝓤 H A) (mem : Memory → SProp 𝓤) (run : Routine → Fun 𝓤) (𝓣 : Tables 𝓤 H) → Triple 𝓤 (𝓣 .C #steps·enter-value) (contractOf 𝓤 H A enter-value-F.ended (enter-value-F.clauses 𝓤 H A mem run)) → Triple 𝓤 (𝓣 .C #steps·merge-value) (contractOf 𝓤 H A merge-value-F.ended (merge-value-F.clauses 𝓤 H A mem run)) → Triple 𝓤 (𝓣 .C #steps·refuse) (contractOf 𝓤 H A refuse-F.ended (refuse-F.clauses 𝓤 H A mem run)) → Triple 𝓤 (𝓣 .C #index·renew) (contractOf 𝓤 H A renew-F.ended (renew-F.clauses 𝓤 H A mem run)) → Triple 𝓤 (𝓣 .C #steps·done) (contractOf 𝓤 H A done-F.ended (done-F.clauses 𝓤 H A mem run)) → Meets 𝓤 H A index-changing-merge-F.signature (WpFn 𝓤 H (𝓣 .C) (𝓣 .Λ) code.function) (index-changing-merge-F.spec 𝓤 H A mem run)
 merge-meets 𝓤 H A W mem run 𝓣 known-enter-value known-merge-value known-refuse known-renew known-done =
     walk-meets 𝓤 H A index-changing-merge-F.ended stayed W (goes-slice 𝓤 H A W 2 0 tt (plain (λ _. u32)), (goes-slice 𝓤 H A W 2 1 tt (plain (λ _. Fence-T.the-row)), (goes-dropped 𝓤 H A W 2 (plain (λ _. Header-T.the-row)) yes (λ κs x f. refl), (goes-dropped 𝓤 H A W 2 (plain (λ _. u32)) yes (λ κs x f. refl), tt))))
     (index-changing-merge-F.clauses 𝓤 H A mem run) (WpFn 𝓤 H (𝓣 .C) (𝓣 .Λ) code.function) (WpFn-mono 𝓤 H (W .laws) 𝓣 code.function) (merge-walks 𝓤 H A W mem run 𝓣 known-enter-value known-merge-value known-refuse known-renew known-done)
@@ -254,8 +254,8 @@ merge-spec 𝓤 H 𝓜 𝓖 𝓡 =
     entered 𝓤 H (tripleOf 𝓤 H (𝓖 .A) index-changing-merge-F.signature (index-changing-merge-F.spec 𝓤 H (𝓖 .A) (𝓜 .mem) (𝓡 .run)))
     (tables 𝓤 H 𝓜 𝓡 code.env .C) (tables 𝓤 H 𝓜 𝓡 code.env .Λ) #index·index-changing-merge code.function (code.unfolded 𝓤 H 𝓜 𝓡)
     (merge-meets 𝓤 H (𝓖 .A) (givenOf 𝓤 H 𝓜 𝓖) (𝓜 .mem) (𝓡 .run) (tablesOf 𝓤 H 𝓜 (tables 𝓤 H 𝓜 𝓡 code.env))
-    (cited 𝓤 H (tripleOf 𝓤 H (𝓖 .A) enter-value-F.signature (enter-value-F.spec 𝓤 H (𝓖 .A) (𝓜 .mem) (𝓡 .run))) 𝓜 𝓡 code.env #index·enter-value enter-value-def.routine code.calls-index·entry·enter-value (enter-value-thm.met 𝓤 H 𝓜 𝓖 𝓡))
-    (cited 𝓤 H (tripleOf 𝓤 H (𝓖 .A) merge-value-F.signature (merge-value-F.spec 𝓤 H (𝓖 .A) (𝓜 .mem) (𝓡 .run))) 𝓜 𝓡 code.env #index·merge-value merge-value-def.routine code.calls-index·alter·merge-value (merge-value-thm.met 𝓤 H 𝓜 𝓖 𝓡))
-    (cited 𝓤 H (tripleOf 𝓤 H (𝓖 .A) refuse-F.signature (refuse-F.spec 𝓤 H (𝓖 .A) (𝓜 .mem) (𝓡 .run))) 𝓜 𝓡 code.env #index·refuse refuse-def.routine code.calls-index·header·refuse (refuse-thm.met 𝓤 H 𝓜 𝓖 𝓡))
+    (cited 𝓤 H (tripleOf 𝓤 H (𝓖 .A) enter-value-F.signature (enter-value-F.spec 𝓤 H (𝓖 .A) (𝓜 .mem) (𝓡 .run))) 𝓜 𝓡 code.env #steps·enter-value enter-value-def.routine code.calls-steps·entry·enter-value (enter-value-thm.met 𝓤 H 𝓜 𝓖 𝓡))
+    (cited 𝓤 H (tripleOf 𝓤 H (𝓖 .A) merge-value-F.signature (merge-value-F.spec 𝓤 H (𝓖 .A) (𝓜 .mem) (𝓡 .run))) 𝓜 𝓡 code.env #steps·merge-value merge-value-def.routine code.calls-steps·alter·merge-value (merge-value-thm.met 𝓤 H 𝓜 𝓖 𝓡))
+    (cited 𝓤 H (tripleOf 𝓤 H (𝓖 .A) refuse-F.signature (refuse-F.spec 𝓤 H (𝓖 .A) (𝓜 .mem) (𝓡 .run))) 𝓜 𝓡 code.env #steps·refuse refuse-def.routine code.calls-steps·header·refuse (refuse-thm.met 𝓤 H 𝓜 𝓖 𝓡))
     (cited 𝓤 H (tripleOf 𝓤 H (𝓖 .A) renew-F.signature (renew-F.spec 𝓤 H (𝓖 .A) (𝓜 .mem) (𝓡 .run))) 𝓜 𝓡 code.env #index·renew renew-def.routine code.calls-index·fences·renew (renew-thm.met 𝓤 H 𝓜 𝓖 𝓡))
-    (cited 𝓤 H (tripleOf 𝓤 H (𝓖 .A) done-F.signature (done-F.spec 𝓤 H (𝓖 .A) (𝓜 .mem) (𝓡 .run))) 𝓜 𝓡 code.env #index·done done-def.routine code.calls-index·header·done (done-thm.met 𝓤 H 𝓜 𝓖 𝓡)))
+    (cited 𝓤 H (tripleOf 𝓤 H (𝓖 .A) done-F.signature (done-F.spec 𝓤 H (𝓖 .A) (𝓜 .mem) (𝓡 .run))) 𝓜 𝓡 code.env #steps·done done-def.routine code.calls-steps·header·done (done-thm.met 𝓤 H 𝓜 𝓖 𝓡)))

@@ -38,12 +38,12 @@ use denote.Triple.Statement.{Triple}
 use denote.Triple.Table.{entered, cited}
 use denote.Triple.Walked.{says, needs, Stays, stay-slice, stay-dropped, walkOf, Walks, ends-at, walked, goes-slice, goes-dropped, walk-meets}
 use Rattle.blocks.specs.Block.{valueLength}
-use Rattle.index.specs.Alter.{Fenced, blockIn, renewedIf, renewedFences}
-use Rattle.index.specs.declared.header.Fence.{Fence}
-use Rattle.index.proofs.header.Fence as Fence-T
-use Rattle.index.specs.declared.entry.Plan.{Plan}
-use Rattle.index.proofs.entry.Plan as Plan-T
-use Rattle.index.proofs.entry.Plan.Laws as Plan-L
+use Rattle.steps.specs.Alter.{Fenced, blockIn, renewedIf, renewedFences}
+use Rattle.steps.specs.declared.header.Fence.{Fence}
+use Rattle.steps.proofs.header.Fence as Fence-T
+use Rattle.steps.specs.declared.entry.Plan.{Plan}
+use Rattle.steps.proofs.entry.Plan as Plan-T
+use Rattle.steps.proofs.entry.Plan.Laws as Plan-L
 use Rattle.walks.proofs.Lend.{ref}
 use Rattle.walks.proofs.Flow.{holds, fails, tests, frees-all}
 use Rattle.walks.proofs.Calls.{contractOf, calls-shr-mut-last}

@@ -40,64 +40,64 @@ use denote.Triple.Spec.{Meets, tripleOf}
 use denote.Triple.Statement.{Triple}
 use denote.Triple.Table.{entered, cited}
 use denote.Triple.Walked.{says, Stays, stay-slice, stay-dropped, walkOf, Walks, ends-at, walked, goes-slice, goes-dropped, walk-meets}
-use Rattle.index.specs.Alter.{Fenced, isWhole, moveWords, moveFences}
-use Rattle.index.specs.Memory.{memoryOf}
-use Rattle.index.specs.Outcomes.{Leaves, refusedBy, doneWith}
+use Rattle.steps.specs.Alter.{Fenced, isWhole, moveWords, moveFences}
+use Rattle.steps.specs.Memory.{memoryOf}
+use Rattle.steps.specs.Outcomes.{Leaves, refusedBy, doneWith}
 use Rattle.index.specs.Calls.{updateAfter}
 use Rattle.index.proofs.changing.UpdateExits.{update-stops, update-planned, update-lost, update-same, update-asks, update-refused, update-done}
-use Rattle.index.specs.Entry.{enteredUpdate, Planned}
-use Rattle.index.specs.Reading.{rowOf, holderOf}
-use Rattle.index.specs.declared.header.Changed.{Changed}
-use Rattle.index.proofs.header.Changed as Changed-T
-use Rattle.index.proofs.header.Changed.Laws as Changed-L
-use Rattle.index.proofs.entry.Entry as Entry-T
-use Rattle.index.proofs.entry.Entry.Laws as Entry-L
-use Rattle.index.specs.declared.entry.Entry.the-variants.{Ready, Stop}
-use Rattle.index.specs.declared.header.Fence.{Fence}
-use Rattle.index.proofs.header.Fence as Fence-T
-use Rattle.index.specs.declared.header.Header.{Header}
-use Rattle.index.proofs.header.Header as Header-T
-use Rattle.index.proofs.header.Header.Laws as Header-L
-use Rattle.index.proofs.row.Holder as Holder-T
-use Rattle.index.proofs.row.Holder.Laws as Holder-L
-use Rattle.index.specs.declared.row.Holder.the-variants.{Found, Lost}
-use Rattle.index.specs.declared.entry.Plan.{Plan}
-use Rattle.index.proofs.entry.Plan as Plan-T
-use Rattle.index.proofs.entry.Plan.Laws as Plan-L
+use Rattle.steps.specs.Entry.{enteredUpdate, Planned}
+use Rattle.steps.specs.Reading.{rowOf, holderOf}
+use Rattle.steps.specs.declared.header.Changed.{Changed}
+use Rattle.steps.proofs.header.Changed as Changed-T
+use Rattle.steps.proofs.header.Changed.Laws as Changed-L
+use Rattle.steps.proofs.entry.Entry as Entry-T
+use Rattle.steps.proofs.entry.Entry.Laws as Entry-L
+use Rattle.steps.specs.declared.entry.Entry.the-variants.{Ready, Stop}
+use Rattle.steps.specs.declared.header.Fence.{Fence}
+use Rattle.steps.proofs.header.Fence as Fence-T
+use Rattle.steps.specs.declared.header.Header.{Header}
+use Rattle.steps.proofs.header.Header as Header-T
+use Rattle.steps.proofs.header.Header.Laws as Header-L
+use Rattle.steps.proofs.row.Holder as Holder-T
+use Rattle.steps.proofs.row.Holder.Laws as Holder-L
+use Rattle.steps.specs.declared.row.Holder.the-variants.{Found, Lost}
+use Rattle.steps.specs.declared.entry.Plan.{Plan}
+use Rattle.steps.proofs.entry.Plan as Plan-T
+use Rattle.steps.proofs.entry.Plan.Laws as Plan-L
 use Rattle.answers.specs.declared.Refusal.{Refusal}
 use Rattle.answers.proofs.Refusal as Refusal-T
 use Rattle.answers.proofs.Refusal.Laws as Refusal-L
 use Rattle.answers.specs.declared.Refusal.the-variants.{Damaged}
-use Rattle.index.specs.declared.row.Row.{Row}
-use Rattle.index.proofs.row.Row as Row-T
-use Rattle.index.proofs.row.Row.Laws as Row-L
+use Rattle.steps.specs.declared.row.Row.{Row}
+use Rattle.steps.proofs.row.Row as Row-T
+use Rattle.steps.proofs.row.Row.Laws as Row-L
 use Rattle.walks.proofs.Lend.{ref}
 use Rattle.walks.proofs.Flow.{told, tests, matches, frees-all}
 use Rattle.walks.proofs.Calls.{contractOf, calls-mut-mut, calls-plain, calls-plain-last, calls-view-view}
-use Rattle.index.proofs.entry.enter_update as enter-update-F
-use Rattle.index.proofs.entry.enter_update.Symbol as enter-update-def
-use Rattle.index.proofs.entry.enter_update.Symbol.{name as #index·enter-update}
-use Rattle.index.proofs.entry.enter_update.Met as enter-update-thm
+use Rattle.steps.proofs.entry.enter_update as enter-update-F
+use Rattle.steps.proofs.entry.enter_update.Symbol as enter-update-def
+use Rattle.steps.proofs.entry.enter_update.Symbol.{name as #steps·enter-update}
+use Rattle.steps.proofs.entry.enter_update.Met as enter-update-thm
 use Rattle.index.proofs.reading.read_row as read-row-F
 use Rattle.index.proofs.reading.read_row.Symbol as read-row-def
 use Rattle.index.proofs.reading.read_row.Symbol.{name as #index·read-row}
 use Rattle.index.proofs.reading.read_row.Met as read-row-thm
-use Rattle.index.proofs.row.holder_of as holder-of-F
-use Rattle.index.proofs.row.holder_of.Symbol as holder-of-def
-use Rattle.index.proofs.row.holder_of.Symbol.{name as #index·holder-of}
-use Rattle.index.proofs.row.holder_of.Met as holder-of-thm
-use Rattle.index.proofs.header.done as done-F
-use Rattle.index.proofs.header.done.Symbol as done-def
-use Rattle.index.proofs.header.done.Symbol.{name as #index·done}
-use Rattle.index.proofs.header.done.Met as done-thm
+use Rattle.steps.proofs.row.holder_of as holder-of-F
+use Rattle.steps.proofs.row.holder_of.Symbol as holder-of-def
+use Rattle.steps.proofs.row.holder_of.Symbol.{name as #steps·holder-of}
+use Rattle.steps.proofs.row.holder_of.Met as holder-of-thm
+use Rattle.steps.proofs.header.done as done-F
+use Rattle.steps.proofs.header.done.Symbol as done-def
+use Rattle.steps.proofs.header.done.Symbol.{name as #steps·done}
+use Rattle.steps.proofs.header.done.Met as done-thm
 use Rattle.index.proofs.changing.move_fenced as move-fenced-F
 use Rattle.index.proofs.changing.move_fenced.Symbol as move-fenced-def
 use Rattle.index.proofs.changing.move_fenced.Symbol.{name as #index·move-fenced}
 use Rattle.index.proofs.changing.move_fenced.Met as move-fenced-thm
-use Rattle.index.proofs.header.refuse as refuse-F
-use Rattle.index.proofs.header.refuse.Symbol as refuse-def
-use Rattle.index.proofs.header.refuse.Symbol.{name as #index·refuse}
-use Rattle.index.proofs.header.refuse.Met as refuse-thm
+use Rattle.steps.proofs.header.refuse as refuse-F
+use Rattle.steps.proofs.header.refuse.Symbol as refuse-def
+use Rattle.steps.proofs.header.refuse.Symbol.{name as #steps·refuse}
+use Rattle.steps.proofs.header.refuse.Met as refuse-thm
 use Rattle.index.proofs.changing.update.Key.{name as #index·update}
 use Rattle.index.proofs.changing.update as update-F
 use Rattle.index.proofs.changing.update.Statement as stated
@@ -150,7 +150,7 @@ module _ {M : Type 1} (𝓤 : URA M) (H : Heap 𝓤) (A : Atoms 𝓤) (W : Given
       suffices ! _ (ends-at 𝓤 H A update-F.ended stayed (update-F.clauses 𝓤 H A mem run) W bound-of u r (words′, (fences′, (tt, (tt, (tt, tt))))) (n-words′, (n-fences′, (tt, (tt, (tt, tt)))))) $ says ! e $
       nothing ! $ move ! (3 ∷ 0 ∷ []) $ join ! $ move ! (1 ∷ 0 ∷ []) $ join ! $ frame ! $ nothing ! $ nothing ! $ fjoin ! $ nothing ! $ fjoin ! $ nothing ! $ fjoin ! $ move ! (2 ∷ 0 ∷ []) $ fjoin ! $ move ! (1 ∷ 0 ∷ []) $ fjoin ! $ frame ! $ owned ! Changed-T.the-row (Is Changed-T.the-row) (SL.makes Changed-T.the-type Changed-L.the-plain 𝓤 H A) r _ is $ done !
 
-  module _ (𝓣 : Tables 𝓤 H) (fm : FmC 𝓤 H (W .laws) (𝓣 .C)) (known-enter-update : Triple 𝓤 (𝓣 .C #index·enter-update) (contractOf 𝓤 H A enter-update-F.ended (enter-update-F.clauses 𝓤 H A mem run))) (known-read-row : Triple 𝓤 (𝓣 .C #index·read-row) (contractOf 𝓤 H A read-row-F.ended (read-row-F.clauses 𝓤 H A mem run))) (known-holder-of : Triple 𝓤 (𝓣 .C #index·holder-of) (contractOf 𝓤 H A holder-of-F.ended (holder-of-F.clauses 𝓤 H A mem run))) (known-done : Triple 𝓤 (𝓣 .C #index·done) (contractOf 𝓤 H A done-F.ended (done-F.clauses 𝓤 H A mem run))) (known-move-fenced : Triple 𝓤 (𝓣 .C #index·move-fenced) (contractOf 𝓤 H A move-fenced-F.ended (move-fenced-F.clauses 𝓤 H A mem run))) (known-refuse : Triple 𝓤 (𝓣 .C #index·refuse) (contractOf 𝓤 H A refuse-F.ended (refuse-F.clauses 𝓤 H A mem run))) where
+  module _ (𝓣 : Tables 𝓤 H) (fm : FmC 𝓤 H (W .laws) (𝓣 .C)) (known-enter-update : Triple 𝓤 (𝓣 .C #steps·enter-update) (contractOf 𝓤 H A enter-update-F.ended (enter-update-F.clauses 𝓤 H A mem run))) (known-read-row : Triple 𝓤 (𝓣 .C #index·read-row) (contractOf 𝓤 H A read-row-F.ended (read-row-F.clauses 𝓤 H A mem run))) (known-holder-of : Triple 𝓤 (𝓣 .C #steps·holder-of) (contractOf 𝓤 H A holder-of-F.ended (holder-of-F.clauses 𝓤 H A mem run))) (known-done : Triple 𝓤 (𝓣 .C #steps·done) (contractOf 𝓤 H A done-F.ended (done-F.clauses 𝓤 H A mem run))) (known-move-fenced : Triple 𝓤 (𝓣 .C #index·move-fenced) (contractOf 𝓤 H A move-fenced-F.ended (move-fenced-F.clauses 𝓤 H A mem run))) (known-refuse : Triple 𝓤 (𝓣 .C #steps·refuse) (contractOf 𝓤 H A refuse-F.ended (refuse-F.clauses 𝓤 H A mem run))) where
     walk : Room u32 (length words) → Room Fence-T.the-row (length fences) → Is Header-T.the-row header (SL.vals Header-T.the-type Header-L.the-laws header) → row′ < 2 ^ 32 → value < 2 ^ 32 → ent 𝓤 (onEntry 𝓤 H A update-F.signature (κ₀, (κ₁, tt)) (q₀, (q₁, tt)) args-of vals-of) (WpFn 𝓤 H (𝓣 .C) (𝓣 .Λ) code.function (sliceVal (b₀, o₀) (length words) ∷ sliceVal (b₁, o₁) (length fences) ∷ SL.val Header-T.the-type Header-L.the-laws header ∷ vint w32 row′ ∷ vint w32 value ∷ []) Post)
     walk room-words room-fences is-header fit-row′ fit-value =
         qed W ((‵ (flft κ₀ q₀) ⊛ (‵ (flft κ₁ q₁) ⊛ ‵ ftrue)) ∷ ‵ (owns (MutSlice (named 0) κ₀ u32 ∷ MutSlice (named 1) κ₁ Fence-T.the-row ∷ Header-T.the-row ∷ u32 ∷ u32 ∷ []) args-of vals-of) ∷ []) ∵ enter ! (𝓣 .C) (𝓣 .Λ) code.function (sliceVal (b₀, o₀) (length words) ∷ sliceVal (b₁, o₁) (length fences) ∷ SL.val Header-T.the-type Header-L.the-laws header ∷ vint w32 row′ ∷ vint w32 value ∷ []) _ $
@@ -160,7 +160,7 @@ module _ {M : Type 1} (𝓤 : URA M) (H : Heap 𝓤) (A : Atoms 𝓤) (W : Given
         -- [words's token; words; fences's token; fences; _27; …; _0; …]
         assigns ! (of-opd ! (load ! (from ! (fld ! refl (stop !))) (look-in ! 56 (sub ! 1 refl (whole !))))) (from ! (stop !)) (init ! 34 refl (tt, record { fits = (room-words .0) })) $
         assigns ! (of-opd ! (load ! (from ! (fld ! refl (stop !))) (look-in ! 54 (sub ! 1 refl (whole !))))) (from ! (stop !)) (init ! 32 refl (tt, record { fits = (room-fences .0) })) $
-        -- enter_update
+        -- steps::entry::enter_update
         calls-plain ! fm Entry-T.the-row (plain (λ _. usize) ∷ plain (λ _. usize) ∷ plain (λ _. Header-T.the-row) ∷ plain (λ _. u32) ∷ plain (λ _. u32) ∷ []) (yes, (yes, (yes, (yes, (yes, tt))))) (enter-update-F.clauses 𝓤 H A mem run) known-enter-update
         (λ κs. (length words, (length fences, (header, (row′, (value, tt)))))) (λ κs. (vint w64 (length words) ∷ [], (vint w64 (length fences) ∷ [], (SL.val Header-T.the-type Header-L.the-laws header ∷ [], (vint w32 row′ ∷ [], (vint w32 value ∷ [], tt)))))) (λ κs. owns-make 𝓤 H A (usize ∷ usize ∷ Header-T.the-row ∷ u32 ∷ u32 ∷ []) (Ises (usize ∷ usize ∷ Header-T.the-row ∷ u32 ∷ u32 ∷ [])) (uint-makes 𝓤 H A W w64, (uint-makes 𝓤 H A W w64, (SL.makes Header-T.the-type Header-L.the-plain 𝓤 H A, (uint-makes 𝓤 H A W w32, (uint-makes 𝓤 H A W w32, tt))))) (length words, (length fences, (header, (row′, (value, tt))))) (vint w64 (length words) ∷ [], (vint w64 (length fences) ∷ [], (SL.val Header-T.the-type Header-L.the-laws header ∷ [], (vint w32 row′ ∷ [], (vint w32 value ∷ [], tt))))) ((refl, (room-words .0)), ((refl, (room-fences .0)), (is-header, ((refl, fit-row′), ((refl, fit-value), tt)))))) (λ κs. tt) (λ κs. id⊢ 𝓤 _)
         (λ r1. r1 ≡ enteredUpdate (length words) (length fences) header row′ value) (λ κs r1 ws. id⊢ 𝓤 _) (λ κs. (and-then ! (load ! (from ! (stop !)) (look ! 35 refl)) (and-then ! (load ! (from ! (stop !)) (look ! 33 refl)) (and-then ! (load ! (from ! (stop !)) (look ! 53 refl)) (and-then ! (load ! (from ! (stop !)) (look ! 51 refl)) (and-then ! (load ! (from ! (stop !)) (look ! 49 refl)) (no-more !)))))))
@@ -179,7 +179,7 @@ module _ {M : Type 1} (𝓤 : URA M) (H : Heap 𝓤) (A : Atoms 𝓤) (W : Given
               (λ r2. r2 ≡ rowOf header (memoryOf words fences) row′) (λ κs δ₀ δ₁ r2 ws. id⊢ 𝓤 _) (λ κs δ₀ δ₁. (and-then ! (load ! (from ! (stop !)) (look ! 26 refl)) (and-then ! (load ! (from ! (stop !)) (look ! 22 refl)) (and-then ! (load ! (from ! (stop !)) (look ! 52 refl)) (and-then ! (load ! (from ! (stop !)) (look ! 44 refl)) (and-then ! (load ! (from ! (stop !)) (look ! 50 refl)) (no-more !)))))))
               (λ u2 r2 e2 is2.
               land ! (from ! (stop !)) (init ! 42 refl (SL.lawful Row-T.the-type Row-L.the-laws 𝓤 H A W .typed r2 _ is2 .0)) $ rewrite ! 42 (λ (w : Val). ‵ (fat fullShare (Row-L.mir) l₈ 0 w)) (ap only (SL.tells Row-T.the-type Row-L.the-laws r2 _ is2)) refl $
-              -- holder_of
+              -- steps::row::holder_of
               calls-plain ! fm Holder-T.the-row (plain (λ _. Row-T.the-row) ∷ []) (yes, tt) (holder-of-F.clauses 𝓤 H A mem run) known-holder-of
               (λ κs. (r2, tt)) (λ κs. (SL.val Row-T.the-type Row-L.the-laws r2 ∷ [], tt)) (λ κs. owns-make 𝓤 H A (Row-T.the-row ∷ []) (Ises (Row-T.the-row ∷ [])) (SL.makes Row-T.the-type Row-L.the-plain 𝓤 H A, tt) (r2, tt) (SL.val Row-T.the-type Row-L.the-laws r2 ∷ [], tt) ((told Row-T.the-type Row-L.the-laws r2 _ is2), tt)) (λ κs. tt) (λ κs. id⊢ 𝓤 _)
               (λ r3. r3 ≡ holderOf r2) (λ κs r3 ws. id⊢ 𝓤 _) (λ κs. (and-then ! (load ! (from ! (stop !)) (look ! 43 refl)) (no-more !)))
@@ -191,7 +191,7 @@ module _ {M : Type 1} (𝓤 : URA M) (H : Heap 𝓤) (A : Atoms 𝓤) (W : Given
                     assigns ! (bin ! (load ! (from ! (stop !)) (look ! 38 refl)) (load ! (from ! (stop !)) (look ! 48 refl)) tt) (from ! (stop !)) (init ! 16 refl (tt, tt)) $
                     tests ! (load ! (from ! (stop !)) (look ! 16 refl))
                     (λ h3 on3.
-                    -- done
+                    -- steps::header::done
                     calls-plain ! fm Changed-T.the-row (plain (λ _. Header-T.the-row) ∷ []) (yes, tt) (done-F.clauses 𝓤 H A mem run) known-done
                     (λ κs. (header, tt)) (λ κs. (SL.val Header-T.the-type Header-L.the-laws header ∷ [], tt)) (λ κs. owns-make 𝓤 H A (Header-T.the-row ∷ []) (Ises (Header-T.the-row ∷ [])) (SL.makes Header-T.the-type Header-L.the-plain 𝓤 H A, tt) (header, tt) (SL.val Header-T.the-type Header-L.the-laws header ∷ [], tt) (is-header, tt)) (λ κs. tt) (λ κs. id⊢ 𝓤 _)
                     (λ r4. r4 ≡ doneWith header 0) (λ κs r4 ws. id⊢ 𝓤 _) (λ κs. (and-then ! (load ! (from ! (stop !)) (look ! 53 refl)) (no-more !)))
@@ -217,7 +217,7 @@ module _ {M : Type 1} (𝓤 : URA M) (H : Heap 𝓤) (A : Atoms 𝓤) (W : Given
                     (λ h4 on4.
                     let made-1 : Is Refusal-T.the-row Damaged (EL.vals Refusal-T.the-type Refusal-L.the-laws Damaged) = EL.owes Refusal-T.the-type Refusal-L.the-laws Damaged tt in
                     assigns ! (agg ! (and-then ! (lit ! tt) (no-more !))) (from ! (stop !)) (init ! 4 refl (EL.lawful Refusal-T.the-type Refusal-L.the-laws 𝓤 H A W tt .typed Damaged (EL.vals Refusal-T.the-type Refusal-L.the-laws Damaged) made-1 .0)) $
-                    -- refuse
+                    -- steps::header::refuse
                     calls-plain ! fm Changed-T.the-row (plain (λ _. Header-T.the-row) ∷ plain (λ _. Refusal-T.the-row) ∷ []) (yes, (yes, tt)) (refuse-F.clauses 𝓤 H A mem run) known-refuse
                     (λ κs. (header, (Damaged, tt))) (λ κs. (SL.val Header-T.the-type Header-L.the-laws header ∷ [], (EL.val Refusal-T.the-type Refusal-L.the-laws Damaged ∷ [], tt))) (λ κs. owns-make 𝓤 H A (Header-T.the-row ∷ Refusal-T.the-row ∷ []) (Ises (Header-T.the-row ∷ Refusal-T.the-row ∷ [])) (SL.makes Header-T.the-type Header-L.the-plain 𝓤 H A, (EL.makes Refusal-T.the-type Refusal-L.the-plain 𝓤 H A, tt)) (header, (Damaged, tt)) (SL.val Header-T.the-type Header-L.the-laws header ∷ [], (EL.val Refusal-T.the-type Refusal-L.the-laws Damaged ∷ [], tt)) (is-header, (made-1, tt))) (λ κs. tt) (λ κs. id⊢ 𝓤 _)
                     (λ r6. r6 ≡ refusedBy header Damaged) (λ κs r6 ws. id⊢ 𝓤 _) (λ κs. (and-then ! (load ! (from ! (stop !)) (look ! 53 refl)) (and-then ! (load ! (from ! (stop !)) (look ! 5 refl)) (no-more !))))
@@ -228,7 +228,7 @@ module _ {M : Type 1} (𝓤 : URA M) (H : Heap 𝓤) (A : Atoms 𝓤) (W : Given
                     by ! (exits (SL.val Changed-T.the-type Changed-L.the-laws r6) r6 words5 fences5 n-words5 n-fences5 (exit-2 words fences header row′ value r1-0 e1 r2 e2 r3-0 e3 h3 r5 words5 fences5 e5 h4 r6 e6) (told Changed-T.the-type Changed-L.the-laws r6 _ is6))))
                     (λ h4 on4.
                     skips ! $ on4 _ (
-                    -- done
+                    -- steps::header::done
                     calls-plain-last ! fm Changed-T.the-row (plain (λ _. Header-T.the-row) ∷ []) (yes, tt) (done-F.clauses 𝓤 H A mem run) known-done
                     (λ κs. (header, tt)) (λ κs. (SL.val Header-T.the-type Header-L.the-laws header ∷ [], tt)) (λ κs. owns-make 𝓤 H A (Header-T.the-row ∷ []) (Ises (Header-T.the-row ∷ [])) (SL.makes Header-T.the-type Header-L.the-plain 𝓤 H A, tt) (header, tt) (SL.val Header-T.the-type Header-L.the-laws header ∷ [], tt) (is-header, tt)) (λ κs. tt) (λ κs. id⊢ 𝓤 _)
                     (λ r7. r7 ≡ doneWith header 0) (λ κs r7 ws. id⊢ 𝓤 _) (λ κs. (and-then ! (load ! (from ! (stop !)) (look ! 53 refl)) (no-more !)))
@@ -244,7 +244,7 @@ module _ {M : Type 1} (𝓤 : URA M) (H : Heap 𝓤) (A : Atoms 𝓤) (W : Given
                     land ! (from ! (stop !)) (init ! 20 refl (EL.lawful Holder-T.the-type Holder-L.the-laws 𝓤 H A W tt .typed (Lost r3-0) _ is3 .0)) $ rewrite ! 20 (λ (w : Val). ‵ (fat fullShare (Holder-L.mir) l₁₉ 0 w)) (ap only (EL.tells Holder-T.the-type Holder-L.the-laws (Lost r3-0) _ is3)) refl $
                     matches ! (load ! (from ! (vrt ! refl (fld ! refl (stop !)))) (look-tag ! 20 (whole !))) tt (λ on5.
                     assigns ! (of-opd ! (load ! (from ! (vrt ! refl (fld ! refl (stop !)))) (look-in ! 20 (in-variant ! 1 0 refl refl (whole !))))) (from ! (stop !)) (init ! 40 refl (EL.lawful Refusal-T.the-type Refusal-L.the-laws 𝓤 H A W tt .typed r3-0 (EL.vals Refusal-T.the-type Refusal-L.the-laws r3-0) (EL.owed Holder-T.the-type Holder-L.the-laws (Lost r3-0) _ is3 .0) .0)) $
-                    -- refuse
+                    -- steps::header::refuse
                     calls-plain-last ! fm Changed-T.the-row (plain (λ _. Header-T.the-row) ∷ plain (λ _. Refusal-T.the-row) ∷ []) (yes, (yes, tt)) (refuse-F.clauses 𝓤 H A mem run) known-refuse
                     (λ κs. (header, (r3-0, tt))) (λ κs. (SL.val Header-T.the-type Header-L.the-laws header ∷ [], (EL.val Refusal-T.the-type Refusal-L.the-laws r3-0 ∷ [], tt))) (λ κs. owns-make 𝓤 H A (Header-T.the-row ∷ Refusal-T.the-row ∷ []) (Ises (Header-T.the-row ∷ Refusal-T.the-row ∷ [])) (SL.makes Header-T.the-type Header-L.the-plain 𝓤 H A, (EL.makes Refusal-T.the-type Refusal-L.the-plain 𝓤 H A, tt)) (header, (r3-0, tt)) (SL.val Header-T.the-type Header-L.the-laws header ∷ [], (EL.val Refusal-T.the-type Refusal-L.the-laws r3-0 ∷ [], tt)) (is-header, ((EL.owed Holder-T.the-type Holder-L.the-laws (Lost r3-0) _ is3 .0), tt))) (λ κs. tt) (λ κs. id⊢ 𝓤 _)
                     (λ r8. r8 ≡ refusedBy header r3-0) (λ κs r8 ws. id⊢ 𝓤 _) (λ κs. (and-then ! (load ! (from ! (stop !)) (look ! 53 refl)) (and-then ! (load ! (from ! (stop !)) (look ! 41 refl)) (no-more !))))
@@ -261,7 +261,7 @@ module _ {M : Type 1} (𝓤 : URA M) (H : Heap 𝓤) (A : Atoms 𝓤) (W : Given
               land ! (from ! (stop !)) (init ! 36 refl (EL.lawful Entry-T.the-type Entry-L.the-laws 𝓤 H A W tt .typed (Stop r1-0) _ is1 .0)) $ rewrite ! 36 (λ (w : Val). ‵ (fat fullShare (Entry-L.mir) l₁₁ 0 w)) (ap only (EL.tells Entry-T.the-type Entry-L.the-laws (Stop r1-0) _ is1)) refl $
               matches ! (load ! (from ! (vrt ! refl (fld ! refl (stop !)))) (look-tag ! 36 (whole !))) tt (λ on6.
               assigns ! (of-opd ! (load ! (from ! (vrt ! refl (fld ! refl (stop !)))) (look-in ! 36 (in-variant ! 1 0 refl refl (whole !))))) (from ! (stop !)) (init ! 46 refl (EL.lawful Refusal-T.the-type Refusal-L.the-laws 𝓤 H A W tt .typed r1-0 (EL.vals Refusal-T.the-type Refusal-L.the-laws r1-0) (EL.owed Entry-T.the-type Entry-L.the-laws (Stop r1-0) _ is1 .0) .0)) $
-              -- refuse
+              -- steps::header::refuse
               calls-plain-last ! fm Changed-T.the-row (plain (λ _. Header-T.the-row) ∷ plain (λ _. Refusal-T.the-row) ∷ []) (yes, (yes, tt)) (refuse-F.clauses 𝓤 H A mem run) known-refuse
               (λ κs. (header, (r1-0, tt))) (λ κs. (SL.val Header-T.the-type Header-L.the-laws header ∷ [], (EL.val Refusal-T.the-type Refusal-L.the-laws r1-0 ∷ [], tt))) (λ κs. owns-make 𝓤 H A (Header-T.the-row ∷ Refusal-T.the-row ∷ []) (Ises (Header-T.the-row ∷ Refusal-T.the-row ∷ [])) (SL.makes Header-T.the-type Header-L.the-plain 𝓤 H A, (EL.makes Refusal-T.the-type Refusal-L.the-plain 𝓤 H A, tt)) (header, (r1-0, tt)) (SL.val Header-T.the-type Header-L.the-laws header ∷ [], (EL.val Refusal-T.the-type Refusal-L.the-laws r1-0 ∷ [], tt)) (is-header, ((EL.owed Entry-T.the-type Entry-L.the-laws (Stop r1-0) _ is1 .0), tt))) (λ κs. tt) (λ κs. id⊢ 𝓤 _)
               (λ r9. r9 ≡ refusedBy header r1-0) (λ κs r9 ws. id⊢ 𝓤 _) (λ κs. (and-then ! (load ! (from ! (stop !)) (look ! 53 refl)) (and-then ! (load ! (from ! (stop !)) (look ! 47 refl)) (no-more !))))
@@ -275,12 +275,12 @@ module _ {M : Type 1} (𝓤 : URA M) (H : Heap 𝓤) (A : Atoms 𝓤) (W : Given
         ])))))))))))))))))))))))))))))
 
 module _ {M : Type 1} (𝓤 : URA M) (H : Heap 𝓤) (A : Atoms 𝓤) (W : Given 𝓤 H A) (mem : Memory → SProp 𝓤) (run : Routine → Fun 𝓤) where
-  update-walks : (𝓣 : Tables 𝓤 H) → Triple 𝓤 (𝓣 .C #index·enter-update) (contractOf 𝓤 H A enter-update-F.ended (enter-update-F.clauses 𝓤 H A mem run)) → Triple 𝓤 (𝓣 .C #index·read-row) (contractOf 𝓤 H A read-row-F.ended (read-row-F.clauses 𝓤 H A mem run)) → Triple 𝓤 (𝓣 .C #index·holder-of) (contractOf 𝓤 H A holder-of-F.ended (holder-of-F.clauses 𝓤 H A mem run)) → Triple 𝓤 (𝓣 .C #index·done) (contractOf 𝓤 H A done-F.ended (done-F.clauses 𝓤 H A mem run)) → Triple 𝓤 (𝓣 .C #index·move-fenced) (contractOf 𝓤 H A move-fenced-F.ended (move-fenced-F.clauses 𝓤 H A mem run)) → Triple 𝓤 (𝓣 .C #index·refuse) (contractOf 𝓤 H A refuse-F.ended (refuse-F.clauses 𝓤 H A mem run)) → Walks 𝓤 H A update-F.ended stayed (WpFn 𝓤 H (𝓣 .C) (𝓣 .Λ) code.function) (update-F.clauses 𝓤 H A mem run)
+  update-walks : (𝓣 : Tables 𝓤 H) → Triple 𝓤 (𝓣 .C #steps·enter-update) (contractOf 𝓤 H A enter-update-F.ended (enter-update-F.clauses 𝓤 H A mem run)) → Triple 𝓤 (𝓣 .C #index·read-row) (contractOf 𝓤 H A read-row-F.ended (read-row-F.clauses 𝓤 H A mem run)) → Triple 𝓤 (𝓣 .C #steps·holder-of) (contractOf 𝓤 H A holder-of-F.ended (holder-of-F.clauses 𝓤 H A mem run)) → Triple 𝓤 (𝓣 .C #steps·done) (contractOf 𝓤 H A done-F.ended (done-F.clauses 𝓤 H A mem run)) → Triple 𝓤 (𝓣 .C #index·move-fenced) (contractOf 𝓤 H A move-fenced-F.ended (move-fenced-F.clauses 𝓤 H A mem run)) → Triple 𝓤 (𝓣 .C #steps·refuse) (contractOf 𝓤 H A refuse-F.ended (refuse-F.clauses 𝓤 H A mem run)) → Walks 𝓤 H A update-F.ended stayed (WpFn 𝓤 H (𝓣 .C) (𝓣 .Λ) code.function) (update-F.clauses 𝓤 H A mem run)
   update-walks 𝓣 known-enter-update known-read-row known-holder-of known-done known-move-fenced known-refuse =
       walked 𝓤 H A update-F.ended stayed (update-F.clauses 𝓤 H A mem run) (WpFn 𝓤 H (𝓣 .C) (𝓣 .Λ) code.function) (λ κs. (slice-vals, (slice-vals, (SL.vals Header-T.the-type Header-L.the-laws, (uint-vals w32, (uint-vals w32, tt)))))) (λ κs. (mut-slice-tells (named 0) (κs .0) u32, (mut-slice-tells (named 1) (κs .1 .0) Fence-T.the-row, (SL.tells Header-T.the-type Header-L.the-laws, (uint-tells w32, (uint-tells w32, tt))))))
       (λ κs qs bounds a g are. via 𝓤 _ (fst∗ 𝓤 _ (emp 𝓤)) (walk 𝓤 H A W mem run (κs .0) (κs .1 .0) (qs .0) (qs .1 .0) (a .0 .ptr .0) (a .0 .ptr .1) (a .0 .name) (a .0 .now) (a .1 .0 .ptr .0) (a .1 .0 .ptr .1) (a .1 .0 .name) (a .1 .0 .now) (a .1 .1 .0) (a .1 .1 .1 .0) (a .1 .1 .1 .1 .0) 𝓣 (fmOf 𝓤 H (W .laws) 𝓣) known-enter-update known-read-row known-holder-of known-done known-move-fenced known-refuse (are .0 .0 .1) (are .1 .0 .0 .1) (are .1 .1 .0) (are .1 .1 .1 .0 .1) (are .1 .1 .1 .1 .0 .1)))
 
-update-meets : {M : Type 1} (𝓤 : URA M) (H : Heap 𝓤) (A : Atoms 𝓤) (W : Given 𝓤 H A) (mem : Memory → SProp 𝓤) (run : Routine → Fun 𝓤) (𝓣 : Tables 𝓤 H) → Triple 𝓤 (𝓣 .C #index·enter-update) (contractOf 𝓤 H A enter-update-F.ended (enter-update-F.clauses 𝓤 H A mem run)) → Triple 𝓤 (𝓣 .C #index·read-row) (contractOf 𝓤 H A read-row-F.ended (read-row-F.clauses 𝓤 H A mem run)) → Triple 𝓤 (𝓣 .C #index·holder-of) (contractOf 𝓤 H A holder-of-F.ended (holder-of-F.clauses 𝓤 H A mem run)) → Triple 𝓤 (𝓣 .C #index·done) (contractOf 𝓤 H A done-F.ended (done-F.clauses 𝓤 H A mem run)) → Triple 𝓤 (𝓣 .C #index·move-fenced) (contractOf 𝓤 H A move-fenced-F.ended (move-fenced-F.clauses 𝓤 H A mem run)) → Triple 𝓤 (𝓣 .C #index·refuse) (contractOf 𝓤 H A refuse-F.ended (refuse-F.clauses 𝓤 H A mem run)) → Meets 𝓤 H A update-F.signature (WpFn 𝓤 H (𝓣 .C) (𝓣 .Λ) code.function) (update-F.spec 𝓤 H A mem run)
+update-meets : {M : Type 1} (𝓤 : URA M) (H : Heap 𝓤) (A : Atoms 𝓤) (W : Given 𝓤 H A) (mem : Memory → SProp 𝓤) (run : Routine → Fun 𝓤) (𝓣 : Tables 𝓤 H) → Triple 𝓤 (𝓣 .C #steps·enter-update) (contractOf 𝓤 H A enter-update-F.ended (enter-update-F.clauses 𝓤 H A mem run)) → Triple 𝓤 (𝓣 .C #index·read-row) (contractOf 𝓤 H A read-row-F.ended (read-row-F.clauses 𝓤 H A mem run)) → Triple 𝓤 (𝓣 .C #steps·holder-of) (contractOf 𝓤 H A holder-of-F.ended (holder-of-F.clauses 𝓤 H A mem run)) → Triple 𝓤 (𝓣 .C #steps·done) (contractOf 𝓤 H A done-F.ended (done-F.clauses 𝓤 H A mem run)) → Triple 𝓤 (𝓣 .C #index·move-fenced) (contractOf 𝓤 H A move-fenced-F.ended (move-fenced-F.clauses 𝓤 H A mem run)) → Triple 𝓤 (𝓣 .C #steps·refuse) (contractOf 𝓤 H A refuse-F.ended (refuse-F.clauses 𝓤 H A mem run)) → Meets 𝓤 H A update-F.signature (WpFn 𝓤 H (𝓣 .C) (𝓣 .Λ) code.function) (update-F.spec 𝓤 H A mem run)
 update-meets 𝓤 H A W mem run 𝓣 known-enter-update known-read-row known-holder-of known-done known-move-fenced known-refuse =
     walk-meets 𝓤 H A update-F.ended stayed W (goes-slice 𝓤 H A W 2 0 tt (plain (λ _. u32)), (goes-slice 𝓤 H A W 2 1 tt (plain (λ _. Fence-T.the-row)), (goes-dropped 𝓤 H A W 2 (plain (λ _. Header-T.the-row)) yes (λ κs x f. refl), (goes-dropped 𝓤 H A W 2 (plain (λ _. u32)) yes (λ κs x f. refl), (goes-dropped 𝓤 H A W 2 (plain (λ _. u32)) yes (λ κs x f. refl), tt)))))
     (update-F.clauses 𝓤 H A mem run) (WpFn 𝓤 H (𝓣 .C) (𝓣 .Λ) code.function) (WpFn-mono 𝓤 H (W .laws) 𝓣 code.function) (update-walks 𝓤 H A W mem run 𝓣 known-enter-update known-read-row known-holder-of known-done known-move-fenced known-refuse)
@@ -291,9 +291,9 @@ update-spec 𝓤 H 𝓜 𝓖 𝓡 =
     entered 𝓤 H (tripleOf 𝓤 H (𝓖 .A) update-F.signature (update-F.spec 𝓤 H (𝓖 .A) (𝓜 .mem) (𝓡 .run)))
     (tables 𝓤 H 𝓜 𝓡 code.env .C) (tables 𝓤 H 𝓜 𝓡 code.env .Λ) #index·update code.function (code.unfolded 𝓤 H 𝓜 𝓡)
     (update-meets 𝓤 H (𝓖 .A) (givenOf 𝓤 H 𝓜 𝓖) (𝓜 .mem) (𝓡 .run) (tablesOf 𝓤 H 𝓜 (tables 𝓤 H 𝓜 𝓡 code.env))
-    (cited 𝓤 H (tripleOf 𝓤 H (𝓖 .A) enter-update-F.signature (enter-update-F.spec 𝓤 H (𝓖 .A) (𝓜 .mem) (𝓡 .run))) 𝓜 𝓡 code.env #index·enter-update enter-update-def.routine code.calls-index·entry·enter-update (enter-update-thm.met 𝓤 H 𝓜 𝓖 𝓡))
+    (cited 𝓤 H (tripleOf 𝓤 H (𝓖 .A) enter-update-F.signature (enter-update-F.spec 𝓤 H (𝓖 .A) (𝓜 .mem) (𝓡 .run))) 𝓜 𝓡 code.env #steps·enter-update enter-update-def.routine code.calls-steps·entry·enter-update (enter-update-thm.met 𝓤 H 𝓜 𝓖 𝓡))
     (cited 𝓤 H (tripleOf 𝓤 H (𝓖 .A) read-row-F.signature (read-row-F.spec 𝓤 H (𝓖 .A) (𝓜 .mem) (𝓡 .run))) 𝓜 𝓡 code.env #index·read-row read-row-def.routine code.calls-index·reading·read-row (read-row-thm.met 𝓤 H 𝓜 𝓖 𝓡))
-    (cited 𝓤 H (tripleOf 𝓤 H (𝓖 .A) holder-of-F.signature (holder-of-F.spec 𝓤 H (𝓖 .A) (𝓜 .mem) (𝓡 .run))) 𝓜 𝓡 code.env #index·holder-of holder-of-def.routine code.calls-index·row·holder-of (holder-of-thm.met 𝓤 H 𝓜 𝓖 𝓡))
-    (cited 𝓤 H (tripleOf 𝓤 H (𝓖 .A) done-F.signature (done-F.spec 𝓤 H (𝓖 .A) (𝓜 .mem) (𝓡 .run))) 𝓜 𝓡 code.env #index·done done-def.routine code.calls-index·header·done (done-thm.met 𝓤 H 𝓜 𝓖 𝓡))
+    (cited 𝓤 H (tripleOf 𝓤 H (𝓖 .A) holder-of-F.signature (holder-of-F.spec 𝓤 H (𝓖 .A) (𝓜 .mem) (𝓡 .run))) 𝓜 𝓡 code.env #steps·holder-of holder-of-def.routine code.calls-steps·row·holder-of (holder-of-thm.met 𝓤 H 𝓜 𝓖 𝓡))
+    (cited 𝓤 H (tripleOf 𝓤 H (𝓖 .A) done-F.signature (done-F.spec 𝓤 H (𝓖 .A) (𝓜 .mem) (𝓡 .run))) 𝓜 𝓡 code.env #steps·done done-def.routine code.calls-steps·header·done (done-thm.met 𝓤 H 𝓜 𝓖 𝓡))
     (cited 𝓤 H (tripleOf 𝓤 H (𝓖 .A) move-fenced-F.signature (move-fenced-F.spec 𝓤 H (𝓖 .A) (𝓜 .mem) (𝓡 .run))) 𝓜 𝓡 code.env #index·move-fenced move-fenced-def.routine code.calls-index·changing·move-fenced (move-fenced-thm.met 𝓤 H 𝓜 𝓖 𝓡))
-    (cited 𝓤 H (tripleOf 𝓤 H (𝓖 .A) refuse-F.signature (refuse-F.spec 𝓤 H (𝓖 .A) (𝓜 .mem) (𝓡 .run))) 𝓜 𝓡 code.env #index·refuse refuse-def.routine code.calls-index·header·refuse (refuse-thm.met 𝓤 H 𝓜 𝓖 𝓡)))
+    (cited 𝓤 H (tripleOf 𝓤 H (𝓖 .A) refuse-F.signature (refuse-F.spec 𝓤 H (𝓖 .A) (𝓜 .mem) (𝓡 .run))) 𝓜 𝓡 code.env #steps·refuse refuse-def.routine code.calls-steps·header·refuse (refuse-thm.met 𝓤 H 𝓜 𝓖 𝓡)))

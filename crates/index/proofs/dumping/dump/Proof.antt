@@ -40,34 +40,34 @@ use denote.Triple.Table.{entered, cited}
 use denote.Triple.Walked.{says, Stays, stay-slice, stay-dropped, walkOf, Walks, ends-at, walked, goes-slice, goes-dropped, walk-meets}
 use Rattle.answers.specs.Outcome.{Gives}
 use Rattle.index.specs.Calls.{dumpOutcome}
-use Rattle.index.specs.Entry.{Planned, enteredIndex}
-use Rattle.index.specs.Memory.{memoryOf}
+use Rattle.steps.specs.Entry.{Planned, enteredIndex}
+use Rattle.steps.specs.Memory.{memoryOf}
 use Rattle.index.proofs.dumping.Exits.{dump-stops, dump-planned}
 use Rattle.answers.specs.declared.Answer.{Answer}
 use Rattle.answers.proofs.Answer as Answer-T
 use Rattle.answers.proofs.Answer.Laws as Answer-L
 use Rattle.answers.specs.declared.Answer.the-variants.{Refused}
-use Rattle.index.proofs.entry.Entry as Entry-T
-use Rattle.index.proofs.entry.Entry.Laws as Entry-L
-use Rattle.index.specs.declared.entry.Entry.the-variants.{Ready, Stop}
-use Rattle.index.specs.declared.header.Fence.{Fence}
-use Rattle.index.proofs.header.Fence as Fence-T
-use Rattle.index.specs.declared.header.Header.{Header}
-use Rattle.index.proofs.header.Header as Header-T
-use Rattle.index.proofs.header.Header.Laws as Header-L
-use Rattle.index.specs.declared.entry.Plan.{Plan}
-use Rattle.index.proofs.entry.Plan as Plan-T
-use Rattle.index.proofs.entry.Plan.Laws as Plan-L
+use Rattle.steps.proofs.entry.Entry as Entry-T
+use Rattle.steps.proofs.entry.Entry.Laws as Entry-L
+use Rattle.steps.specs.declared.entry.Entry.the-variants.{Ready, Stop}
+use Rattle.steps.specs.declared.header.Fence.{Fence}
+use Rattle.steps.proofs.header.Fence as Fence-T
+use Rattle.steps.specs.declared.header.Header.{Header}
+use Rattle.steps.proofs.header.Header as Header-T
+use Rattle.steps.proofs.header.Header.Laws as Header-L
+use Rattle.steps.specs.declared.entry.Plan.{Plan}
+use Rattle.steps.proofs.entry.Plan as Plan-T
+use Rattle.steps.proofs.entry.Plan.Laws as Plan-L
 use Rattle.answers.specs.declared.Refusal.{Refusal}
 use Rattle.answers.proofs.Refusal as Refusal-T
 use Rattle.answers.proofs.Refusal.Laws as Refusal-L
 use Rattle.walks.proofs.Lend.{ref}
 use Rattle.walks.proofs.Flow.{told-enum, matches, frees-all}
 use Rattle.walks.proofs.Calls.{contractOf, calls-plain, calls-shr-shr-mut-last}
-use Rattle.index.proofs.entry.enter_index as enter-index-F
-use Rattle.index.proofs.entry.enter_index.Symbol as enter-index-def
-use Rattle.index.proofs.entry.enter_index.Symbol.{name as #index·enter-index}
-use Rattle.index.proofs.entry.enter_index.Met as enter-index-thm
+use Rattle.steps.proofs.entry.enter_index as enter-index-F
+use Rattle.steps.proofs.entry.enter_index.Symbol as enter-index-def
+use Rattle.steps.proofs.entry.enter_index.Symbol.{name as #steps·enter-index}
+use Rattle.steps.proofs.entry.enter_index.Met as enter-index-thm
 use Rattle.index.proofs.dumping.dump_rows as dump-rows-F
 use Rattle.index.proofs.dumping.dump_rows.Symbol as dump-rows-def
 use Rattle.index.proofs.dumping.dump_rows.Symbol.{name as #index·dump-rows}
@@ -109,7 +109,7 @@ module _ {M : Type 1} (𝓤 : URA M) (H : Heap 𝓤) (A : Atoms 𝓤) (W : Given
       suffices ! _ (ends-at 𝓤 H A dump-F.ended stayed (dump-F.clauses 𝓤 H A mem run) W bound-of u r (tt, (tt, (out′, (tt, tt)))) (tt, (tt, (n-out′, (tt, tt))))) $ says ! e $
       nothing ! $ move ! (3 ∷ 0 ∷ []) $ join ! $ move ! (2 ∷ 0 ∷ []) $ join ! $ move ! (1 ∷ 0 ∷ []) $ join ! $ frame ! $ nothing ! $ nothing ! $ fjoin ! $ move ! (1 ∷ 0 ∷ []) $ fjoin ! $ nothing ! $ fjoin ! $ nothing ! $ fjoin ! $ frame ! $ owned ! Answer-T.the-row (Is Answer-T.the-row) (EL.makes Answer-T.the-type Answer-L.the-plain 𝓤 H A) r _ is $ done !
 
-  module _ (𝓣 : Tables 𝓤 H) (fm : FmC 𝓤 H (W .laws) (𝓣 .C)) (known-enter-index : Triple 𝓤 (𝓣 .C #index·enter-index) (contractOf 𝓤 H A enter-index-F.ended (enter-index-F.clauses 𝓤 H A mem run))) (known-dump-rows : Triple 𝓤 (𝓣 .C #index·dump-rows) (contractOf 𝓤 H A dump-rows-F.ended (dump-rows-F.clauses 𝓤 H A mem run))) where
+  module _ (𝓣 : Tables 𝓤 H) (fm : FmC 𝓤 H (W .laws) (𝓣 .C)) (known-enter-index : Triple 𝓤 (𝓣 .C #steps·enter-index) (contractOf 𝓤 H A enter-index-F.ended (enter-index-F.clauses 𝓤 H A mem run))) (known-dump-rows : Triple 𝓤 (𝓣 .C #index·dump-rows) (contractOf 𝓤 H A dump-rows-F.ended (dump-rows-F.clauses 𝓤 H A mem run))) where
     walk : Room u32 (length words) → Room Fence-T.the-row (length fences) → Room u8 (length out) → Is Header-T.the-row header (SL.vals Header-T.the-type Header-L.the-laws header) → ent 𝓤 (onEntry 𝓤 H A dump-F.signature (κ₀, (κ₁, (κ₂, tt))) (q₀, (q₁, (q₂, tt))) args-of vals-of) (WpFn 𝓤 H (𝓣 .C) (𝓣 .Λ) code.function (sliceVal (b₀, o₀) (length words) ∷ sliceVal (b₁, o₁) (length fences) ∷ sliceVal (b₂, o₂) (length out) ∷ SL.val Header-T.the-type Header-L.the-laws header ∷ []) Post)
     walk room-words room-fences room-out is-header =
         qed W ((‵ (flft κ₀ q₀) ⊛ (‵ (flft κ₁ q₁) ⊛ (‵ (flft κ₂ q₂) ⊛ ‵ ftrue))) ∷ ‵ (owns (ShrSlice (named 0) κ₀ u32 ∷ ShrSlice (named 1) κ₁ Fence-T.the-row ∷ MutSlice (named 2) κ₂ u8 ∷ Header-T.the-row ∷ []) args-of vals-of) ∷ []) ∵ enter ! (𝓣 .C) (𝓣 .Λ) code.function (sliceVal (b₀, o₀) (length words) ∷ sliceVal (b₁, o₁) (length fences) ∷ sliceVal (b₂, o₂) (length out) ∷ SL.val Header-T.the-type Header-L.the-laws header ∷ []) _ $
@@ -119,7 +119,7 @@ module _ {M : Type 1} (𝓤 : URA M) (H : Heap 𝓤) (A : Atoms 𝓤) (W : Given
         -- [words's token; words; fences's token; fences; out's token; out; _12; …; _0; …]
         assigns ! (of-opd ! (load ! (from ! (fld ! refl (stop !))) (look-in ! 28 (sub ! 1 refl (whole !))))) (from ! (stop !)) (init ! 14 refl (tt, record { fits = (room-words .0) })) $
         assigns ! (of-opd ! (load ! (from ! (fld ! refl (stop !))) (look-in ! 26 (sub ! 1 refl (whole !))))) (from ! (stop !)) (init ! 12 refl (tt, record { fits = (room-fences .0) })) $
-        -- enter_index
+        -- steps::entry::enter_index
         calls-plain ! fm Entry-T.the-row (plain (λ _. usize) ∷ plain (λ _. usize) ∷ plain (λ _. Header-T.the-row) ∷ []) (yes, (yes, (yes, tt))) (enter-index-F.clauses 𝓤 H A mem run) known-enter-index
         (λ κs. (length words, (length fences, (header, tt)))) (λ κs. (vint w64 (length words) ∷ [], (vint w64 (length fences) ∷ [], (SL.val Header-T.the-type Header-L.the-laws header ∷ [], tt)))) (λ κs. owns-make 𝓤 H A (usize ∷ usize ∷ Header-T.the-row ∷ []) (Ises (usize ∷ usize ∷ Header-T.the-row ∷ [])) (uint-makes 𝓤 H A W w64, (uint-makes 𝓤 H A W w64, (SL.makes Header-T.the-type Header-L.the-plain 𝓤 H A, tt))) (length words, (length fences, (header, tt))) (vint w64 (length words) ∷ [], (vint w64 (length fences) ∷ [], (SL.val Header-T.the-type Header-L.the-laws header ∷ [], tt))) ((refl, (room-words .0)), ((refl, (room-fences .0)), (is-header, tt)))) (λ κs. tt) (λ κs. id⊢ 𝓤 _)
         (λ r1. r1 ≡ enteredIndex (length words) (length fences) header) (λ κs r1 ws. id⊢ 𝓤 _) (λ κs. (and-then ! (load ! (from ! (stop !)) (look ! 15 refl)) (and-then ! (load ! (from ! (stop !)) (look ! 13 refl)) (and-then ! (load ! (from ! (stop !)) (look ! 23 refl)) (no-more !)))))
@@ -156,12 +156,12 @@ module _ {M : Type 1} (𝓤 : URA M) (H : Heap 𝓤) (A : Atoms 𝓤) (W : Given
         ]))))))))))))))
 
 module _ {M : Type 1} (𝓤 : URA M) (H : Heap 𝓤) (A : Atoms 𝓤) (W : Given 𝓤 H A) (mem : Memory → SProp 𝓤) (run : Routine → Fun 𝓤) where
-  dump-walks : (𝓣 : Tables 𝓤 H) → Triple 𝓤 (𝓣 .C #index·enter-index) (contractOf 𝓤 H A enter-index-F.ended (enter-index-F.clauses 𝓤 H A mem run)) → Triple 𝓤 (𝓣 .C #index·dump-rows) (contractOf 𝓤 H A dump-rows-F.ended (dump-rows-F.clauses 𝓤 H A mem run)) → Walks 𝓤 H A dump-F.ended stayed (WpFn 𝓤 H (𝓣 .C) (𝓣 .Λ) code.function) (dump-F.clauses 𝓤 H A mem run)
+  dump-walks : (𝓣 : Tables 𝓤 H) → Triple 𝓤 (𝓣 .C #steps·enter-index) (contractOf 𝓤 H A enter-index-F.ended (enter-index-F.clauses 𝓤 H A mem run)) → Triple 𝓤 (𝓣 .C #index·dump-rows) (contractOf 𝓤 H A dump-rows-F.ended (dump-rows-F.clauses 𝓤 H A mem run)) → Walks 𝓤 H A dump-F.ended stayed (WpFn 𝓤 H (𝓣 .C) (𝓣 .Λ) code.function) (dump-F.clauses 𝓤 H A mem run)
   dump-walks 𝓣 known-enter-index known-dump-rows =
       walked 𝓤 H A dump-F.ended stayed (dump-F.clauses 𝓤 H A mem run) (WpFn 𝓤 H (𝓣 .C) (𝓣 .Λ) code.function) (λ κs. (slice-vals, (slice-vals, (slice-vals, (SL.vals Header-T.the-type Header-L.the-laws, tt))))) (λ κs. (shr-slice-tells (named 0) (κs .0) u32, (shr-slice-tells (named 1) (κs .1 .0) Fence-T.the-row, (mut-slice-tells (named 2) (κs .1 .1 .0) u8, (SL.tells Header-T.the-type Header-L.the-laws, tt)))))
       (λ κs qs bounds a g are. via 𝓤 _ (fst∗ 𝓤 _ (emp 𝓤)) (walk 𝓤 H A W mem run (κs .0) (κs .1 .0) (κs .1 .1 .0) (qs .0) (qs .1 .0) (qs .1 .1 .0) (a .0 .ptr .0) (a .0 .ptr .1) (a .0 .name) (a .0 .now) (a .1 .0 .ptr .0) (a .1 .0 .ptr .1) (a .1 .0 .name) (a .1 .0 .now) (a .1 .1 .0 .ptr .0) (a .1 .1 .0 .ptr .1) (a .1 .1 .0 .name) (a .1 .1 .0 .now) (a .1 .1 .1 .0) 𝓣 (fmOf 𝓤 H (W .laws) 𝓣) known-enter-index known-dump-rows (are .0 .0 .1) (are .1 .0 .0 .1) (are .1 .1 .0 .0 .1) (are .1 .1 .1 .0)))
 
-dump-meets : {M : Type 1} (𝓤 : URA M) (H : Heap 𝓤) (A : Atoms 𝓤) (W : Given 𝓤 H A) (mem : Memory → SProp 𝓤) (run : Routine → Fun 𝓤) (𝓣 : Tables 𝓤 H) → Triple 𝓤 (𝓣 .C #index·enter-index) (contractOf 𝓤 H A enter-index-F.ended (enter-index-F.clauses 𝓤 H A mem run)) → Triple 𝓤 (𝓣 .C #index·dump-rows) (contractOf 𝓤 H A dump-rows-F.ended (dump-rows-F.clauses 𝓤 H A mem run)) → Meets 𝓤 H A dump-F.signature (WpFn 𝓤 H (𝓣 .C) (𝓣 .Λ) code.function) (dump-F.spec 𝓤 H A mem run)
+dump-meets : {M : Type 1} (𝓤 : URA M) (H : Heap 𝓤) (A : Atoms 𝓤) (W : Given 𝓤 H A) (mem : Memory → SProp 𝓤) (run : Routine → Fun 𝓤) (𝓣 : Tables 𝓤 H) → Triple 𝓤 (𝓣 .C #steps·enter-index) (contractOf 𝓤 H A enter-index-F.ended (enter-index-F.clauses 𝓤 H A mem run)) → Triple 𝓤 (𝓣 .C #index·dump-rows) (contractOf 𝓤 H A dump-rows-F.ended (dump-rows-F.clauses 𝓤 H A mem run)) → Meets 𝓤 H A dump-F.signature (WpFn 𝓤 H (𝓣 .C) (𝓣 .Λ) code.function) (dump-F.spec 𝓤 H A mem run)
 dump-meets 𝓤 H A W mem run 𝓣 known-enter-index known-dump-rows =
     walk-meets 𝓤 H A dump-F.ended stayed W (goes-dropped 𝓤 H A W 3 (shrSliceOf (0 ∷ []) tt (plain (λ _. u32))) yes (λ κs x f. refl), (goes-dropped 𝓤 H A W 3 (shrSliceOf (1 ∷ []) tt (plain (λ _. Fence-T.the-row))) yes (λ κs x f. refl), (goes-slice 𝓤 H A W 3 2 tt (plain (λ _. u8)), (goes-dropped 𝓤 H A W 3 (plain (λ _. Header-T.the-row)) yes (λ κs x f. refl), tt))))
     (dump-F.clauses 𝓤 H A mem run) (WpFn 𝓤 H (𝓣 .C) (𝓣 .Λ) code.function) (WpFn-mono 𝓤 H (W .laws) 𝓣 code.function) (dump-walks 𝓤 H A W mem run 𝓣 known-enter-index known-dump-rows)
@@ -172,5 +172,5 @@ dump-spec 𝓤 H 𝓜 𝓖 𝓡 =
     entered 𝓤 H (tripleOf 𝓤 H (𝓖 .A) dump-F.signature (dump-F.spec 𝓤 H (𝓖 .A) (𝓜 .mem) (𝓡 .run)))
     (tables 𝓤 H 𝓜 𝓡 code.env .C) (tables 𝓤 H 𝓜 𝓡 code.env .Λ) #index·dump code.function (code.unfolded 𝓤 H 𝓜 𝓡)
     (dump-meets 𝓤 H (𝓖 .A) (givenOf 𝓤 H 𝓜 𝓖) (𝓜 .mem) (𝓡 .run) (tablesOf 𝓤 H 𝓜 (tables 𝓤 H 𝓜 𝓡 code.env))
-    (cited 𝓤 H (tripleOf 𝓤 H (𝓖 .A) enter-index-F.signature (enter-index-F.spec 𝓤 H (𝓖 .A) (𝓜 .mem) (𝓡 .run))) 𝓜 𝓡 code.env #index·enter-index enter-index-def.routine code.calls-index·entry·enter-index (enter-index-thm.met 𝓤 H 𝓜 𝓖 𝓡))
+    (cited 𝓤 H (tripleOf 𝓤 H (𝓖 .A) enter-index-F.signature (enter-index-F.spec 𝓤 H (𝓖 .A) (𝓜 .mem) (𝓡 .run))) 𝓜 𝓡 code.env #steps·enter-index enter-index-def.routine code.calls-steps·entry·enter-index (enter-index-thm.met 𝓤 H 𝓜 𝓖 𝓡))
     (cited 𝓤 H (tripleOf 𝓤 H (𝓖 .A) dump-rows-F.signature (dump-rows-F.spec 𝓤 H (𝓖 .A) (𝓜 .mem) (𝓡 .run))) 𝓜 𝓡 code.env #index·dump-rows dump-rows-def.routine code.calls-index·dumping·dump-rows (dump-rows-thm.met 𝓤 H 𝓜 𝓖 𝓡)))

@@ -40,18 +40,18 @@ use denote.Triple.Spec.{Meets, tripleOf}
 use denote.Triple.Statement.{Triple}
 use denote.Triple.Table.{entered, cited}
 use denote.Triple.Walked.{says, needs, Stays, stay-slice, stay-dropped, walkOf, Walks, ends-at, walked, goes-slice, goes-dropped, walk-meets}
-use Rattle.index.specs.Dumping.{fencesFor, fencesHold, markedFences, valuesHold, markedValues}
-use Rattle.index.specs.Entry.{Planned}
-use Rattle.index.specs.Memory.{memoryOf}
+use Rattle.steps.specs.Dumping.{fencesFor, fencesHold, markedFences, valuesHold, markedValues}
+use Rattle.steps.specs.Entry.{Planned}
+use Rattle.steps.specs.Memory.{memoryOf}
 use Rattle.index.proofs.dumping.Turns.{ValuesSeen, none-seen, value-asks, value-seen, value-damaged, all-seen}
-use Rattle.index.specs.declared.header.Fence.{Fence}
-use Rattle.index.proofs.header.Fence as Fence-T
-use Rattle.index.specs.declared.header.Header.{Header}
-use Rattle.index.proofs.header.Header as Header-T
-use Rattle.index.proofs.header.Header.Laws as Header-L
-use Rattle.index.specs.declared.entry.Plan.{Plan}
-use Rattle.index.proofs.entry.Plan as Plan-T
-use Rattle.index.proofs.entry.Plan.Laws as Plan-L
+use Rattle.steps.specs.declared.header.Fence.{Fence}
+use Rattle.steps.proofs.header.Fence as Fence-T
+use Rattle.steps.specs.declared.header.Header.{Header}
+use Rattle.steps.proofs.header.Header as Header-T
+use Rattle.steps.proofs.header.Header.Laws as Header-L
+use Rattle.steps.specs.declared.entry.Plan.{Plan}
+use Rattle.steps.proofs.entry.Plan as Plan-T
+use Rattle.steps.proofs.entry.Plan.Laws as Plan-L
 use Rattle.walks.proofs.Lend.{ref}
 use Rattle.walks.proofs.Flow.{Nearer, Nearer-wf, tests, while-loops, assigns-again, turn-returns, frees-all, below-word, next-le, next-nearer}
 use Rattle.walks.proofs.Calls.{contractOf, calls-shr-shr-mut}

@@ -38,9 +38,9 @@ use denote.Triple.Entry.{Vals, onEntry}
 use denote.Triple.Spec.{Meets, tripleOf}
 use denote.Triple.Table.{entered}
 use denote.Triple.Walked.{says, Stays, stay-dropped, walkOf, Walks, ends-at, walked, goes-dropped, walk-meets}
-use Rattle.index.specs.declared.header.Fence.{Fence}
-use Rattle.index.proofs.header.Fence as T
-use Rattle.index.proofs.header.Fence.Laws as T′
+use Rattle.steps.specs.declared.header.Fence.{Fence}
+use Rattle.steps.proofs.header.Fence as T
+use Rattle.steps.proofs.header.Fence.Laws as T′
 use Rattle.walks.proofs.Bytes.{in-bytes}
 use Rattle.index.proofs.fences.fence_at.Key.{name as #index·fence-at}
 use Rattle.index.proofs.fences.fence_at as fence-at

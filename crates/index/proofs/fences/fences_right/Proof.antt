@@ -42,38 +42,38 @@ use denote.Triple.Table.{entered, cited}
 use denote.Triple.Walked.{says, needs, Stays, stay-dropped, walkOf, Walks, ends-at, walked, goes-dropped, walk-meets}
 use Rattle.blocks.specs.Shape.{fenceCount}
 use Rattle.blocks.specs.Block.{part, valueLength}
-use Rattle.blocks.specs.Fences.{cursorAt, fenceAt}
-use Rattle.index.specs.Alter.{Suits, Fenced, blockIn, listIn}
-use Rattle.index.specs.Fences.{noFence, isFence, rightFences, fenceBefore}
+use Rattle.steps.specs.Alter.{Fenced, blockIn, listIn, Suits}
+use Rattle.steps.specs.Fences.{noFence, rightFences, isFence, fenceBefore}
 use Rattle.index.proofs.fences.Turns.{fence-fits, first-fits, below, goes-on, RightTo, none-wrong, right-so-far, wrong-here, all-compared}
+use Rattle.blocks.specs.Fences.{cursorAt, fenceAt}
 use Rattle.blocks.specs.declared.fence.Cursor.{Cursor}
 use Rattle.blocks.proofs.fence.Cursor as Cursor-T
 use Rattle.blocks.proofs.fence.Cursor.Laws as Cursor-L
-use Rattle.index.specs.declared.header.Fence.{Fence}
-use Rattle.index.proofs.header.Fence as Fence-T
-use Rattle.index.proofs.header.Fence.Laws as Fence-L
-use Rattle.index.specs.declared.entry.Plan.{Plan}
-use Rattle.index.proofs.entry.Plan as Plan-T
-use Rattle.index.proofs.entry.Plan.Laws as Plan-L
+use Rattle.steps.specs.declared.header.Fence.{Fence}
+use Rattle.steps.proofs.header.Fence as Fence-T
+use Rattle.steps.proofs.header.Fence.Laws as Fence-L
+use Rattle.steps.specs.declared.entry.Plan.{Plan}
+use Rattle.steps.proofs.entry.Plan as Plan-T
+use Rattle.steps.proofs.entry.Plan.Laws as Plan-L
 use Rattle.walks.proofs.Lend.{ref}
 use Rattle.walks.proofs.Flow.{Nearer, Nearer-wf, told, tests, while-loops, assigns-again, turn-returns, frees-all, below-word, next-le, next-nearer, widen-32-64}
 use Rattle.walks.proofs.Calls.{contractOf, calls-plain, calls-shr}
-use Rattle.index.proofs.fences.first_word as first-word-F
-use Rattle.index.proofs.fences.first_word.Symbol as first-word-def
-use Rattle.index.proofs.fences.first_word.Symbol.{name as #index·first-word}
-use Rattle.index.proofs.fences.first_word.Met as first-word-thm
-use Rattle.index.proofs.fences.find_fence as find-fence-F
-use Rattle.index.proofs.fences.find_fence.Symbol as find-fence-def
-use Rattle.index.proofs.fences.find_fence.Symbol.{name as #index·find-fence}
-use Rattle.index.proofs.fences.find_fence.Met as find-fence-thm
+use Rattle.steps.proofs.fence.first_word as first-word-F
+use Rattle.steps.proofs.fence.first_word.Symbol as first-word-def
+use Rattle.steps.proofs.fence.first_word.Symbol.{name as #steps·first-word}
+use Rattle.steps.proofs.fence.first_word.Met as first-word-thm
+use Rattle.steps.proofs.fence.find_fence as find-fence-F
+use Rattle.steps.proofs.fence.find_fence.Symbol as find-fence-def
+use Rattle.steps.proofs.fence.find_fence.Symbol.{name as #steps·find-fence}
+use Rattle.steps.proofs.fence.find_fence.Met as find-fence-thm
 use Rattle.index.proofs.fences.fence_at as fence-at-F
 use Rattle.index.proofs.fences.fence_at.Symbol as fence-at-def
 use Rattle.index.proofs.fences.fence_at.Symbol.{name as #index·fence-at}
 use Rattle.index.proofs.fences.fence_at.Met as fence-at-thm
-use Rattle.index.proofs.fences.is_fence as is-fence-F
-use Rattle.index.proofs.fences.is_fence.Symbol as is-fence-def
-use Rattle.index.proofs.fences.is_fence.Symbol.{name as #index·is-fence}
-use Rattle.index.proofs.fences.is_fence.Met as is-fence-thm
+use Rattle.steps.proofs.fence.is_fence as is-fence-F
+use Rattle.steps.proofs.fence.is_fence.Symbol as is-fence-def
+use Rattle.steps.proofs.fence.is_fence.Symbol.{name as #steps·is-fence}
+use Rattle.steps.proofs.fence.is_fence.Met as is-fence-thm
 use Rattle.index.proofs.fences.fences_right.Key.{name as #index·fences-right}
 use Rattle.index.proofs.fences.fences_right as fences-right-F
 use Rattle.index.proofs.fences.fences_right.Statement as stated
@@ -126,7 +126,7 @@ module _ {M : Type 1} (𝓤 : URA M) (H : Heap 𝓤) (A : Atoms 𝓤) (W : Given
       suffices ! _ (ends-at 𝓤 H A fences-right-F.ended stayed (fences-right-F.clauses 𝓤 H A mem run) W bound-of u r (tt, (tt, (tt, (tt, tt)))) (tt, (tt, (tt, (tt, tt))))) $ says ! e $
       nothing ! $ move ! (2 ∷ 0 ∷ []) $ join ! $ move ! (1 ∷ 0 ∷ []) $ join ! $ frame ! $ nothing ! $ nothing ! $ fjoin ! $ nothing ! $ fjoin ! $ nothing ! $ fjoin ! $ nothing ! $ fjoin ! $ frame ! $ owned ! Boolean (Is Boolean) (bool-makes 𝓤 H A W) r _ is $ done !
 
-  module _ (𝓣 : Tables 𝓤 H) (fm : FmC 𝓤 H (W .laws) (𝓣 .C)) (known-first-word : Triple 𝓤 (𝓣 .C #index·first-word) (contractOf 𝓤 H A first-word-F.ended (first-word-F.clauses 𝓤 H A mem run))) (known-find-fence : Triple 𝓤 (𝓣 .C #index·find-fence) (contractOf 𝓤 H A find-fence-F.ended (find-fence-F.clauses 𝓤 H A mem run))) (known-fence-at : Triple 𝓤 (𝓣 .C #index·fence-at) (contractOf 𝓤 H A fence-at-F.ended (fence-at-F.clauses 𝓤 H A mem run))) (known-is-fence : Triple 𝓤 (𝓣 .C #index·is-fence) (contractOf 𝓤 H A is-fence-F.ended (is-fence-F.clauses 𝓤 H A mem run))) where
+  module _ (𝓣 : Tables 𝓤 H) (fm : FmC 𝓤 H (W .laws) (𝓣 .C)) (known-first-word : Triple 𝓤 (𝓣 .C #steps·first-word) (contractOf 𝓤 H A first-word-F.ended (first-word-F.clauses 𝓤 H A mem run))) (known-find-fence : Triple 𝓤 (𝓣 .C #steps·find-fence) (contractOf 𝓤 H A find-fence-F.ended (find-fence-F.clauses 𝓤 H A mem run))) (known-fence-at : Triple 𝓤 (𝓣 .C #index·fence-at) (contractOf 𝓤 H A fence-at-F.ended (fence-at-F.clauses 𝓤 H A mem run))) (known-is-fence : Triple 𝓤 (𝓣 .C #steps·is-fence) (contractOf 𝓤 H A is-fence-F.ended (is-fence-F.clauses 𝓤 H A mem run))) where
     walk : Room u32 (length words) → Room Fence-T.the-row (length fences) → Is Plan-T.the-row plan (SL.vals Plan-T.the-type Plan-L.the-laws plan) → value < 2 ^ 32 → Fenced plan (length words) (length fences) value × (valueLength (blockIn plan words value) ≤ plan .shape .groups) → ent 𝓤 (onEntry 𝓤 H A fences-right-F.signature (κ₀, (κ₁, tt)) (q₀, (q₁, tt)) args-of vals-of) (WpFn 𝓤 H (𝓣 .C) (𝓣 .Λ) code.function (sliceVal (b₀, o₀) (length words) ∷ sliceVal (b₁, o₁) (length fences) ∷ SL.val Plan-T.the-type Plan-L.the-laws plan ∷ vint w32 value ∷ []) Post)
     walk room-words room-fences is-plan fit-value req =
         qed W ((‵ (flft κ₀ q₀) ⊛ (‵ (flft κ₁ q₁) ⊛ ‵ ftrue)) ∷ ‵ (owns (ShrSlice (named 0) κ₀ u32 ∷ ShrSlice (named 1) κ₁ Fence-T.the-row ∷ Plan-T.the-row ∷ u32 ∷ []) args-of vals-of) ∷ []) ∵ enter ! (𝓣 .C) (𝓣 .Λ) code.function (sliceVal (b₀, o₀) (length words) ∷ sliceVal (b₁, o₁) (length fences) ∷ SL.val Plan-T.the-type Plan-L.the-laws plan ∷ vint w32 value ∷ []) _ $
@@ -136,7 +136,7 @@ module _ {M : Type 1} (𝓤 : URA M) (H : Heap 𝓤) (A : Atoms 𝓤) (W : Given
         -- [words's token; words; fences's token; fences; _12; …; _0; …]
         assigns ! (un ! (load ! (from ! (stop !)) (look ! 20 refl)) (record { fits = (widen-32-64 fit-value) })) (from ! (stop !)) (init ! 10 refl (tt, record { fits = (widen-32-64 fit-value) })) $
         assigns ! (bin ! (load ! (from ! (stop !)) (look ! 10 refl)) (load ! (from ! (fld ! refl (stop !))) (look-in ! 22 (sub ! 2 refl (whole !)))) (record { fits = (fits-1 words fences plan value room-fences req) })) (from ! (stop !)) (init ! 18 refl (tt, record { fits = (fits-1 words fences plan value room-fences req) })) $
-        -- first_word
+        -- steps::fence::first_word
         calls-plain ! fm Cursor-T.the-row [] tt (first-word-F.clauses 𝓤 H A mem run) known-first-word
         (λ κs. tt) (λ κs. tt) (λ κs. owns-make 𝓤 H A [] (Ises []) tt tt tt tt) (λ κs. tt) (λ κs. id⊢ 𝓤 _)
         (λ r1. r1 ≡ cursorAt 0 0) (λ κs r1 ws. id⊢ 𝓤 _) (λ κs. (no-more !))
@@ -149,7 +149,7 @@ module _ {M : Type 1} (𝓤 : URA M) (H : Heap 𝓤) (A : Atoms 𝓤) (W : Given
         assigns ! (bin ! (load ! (from ! (stop !)) (look ! 14 refl)) (load ! (from ! (fld ! refl (stop !))) (look-in ! 22 (sub ! 2 refl (whole !)))) tt) (from ! (stop !)) (init ! 8 refl (tt, tt)) $
         whiles _ _ (load ! (from ! (stop !)) (look ! 8 refl))
         (λ less-h.
-        -- find_fence
+        -- steps::fence::find_fence
         calls-shr ! fm u32 Cursor-T.the-row (plain (λ _. Plan-T.the-row) ∷ plain (λ _. u32) ∷ plain (λ _. Cursor-T.the-row) ∷ plain (λ _. usize) ∷ []) (yes, (yes, (yes, (yes, tt)))) (find-fence-F.clauses 𝓤 H A mem run) known-find-fence b₀ o₀ γ₀ words (length words) refl
         (λ κs. (plan, (value, ((x .1 .0), ((x .0), tt))))) (λ κs. (SL.val Plan-T.the-type Plan-L.the-laws plan ∷ [], (vint w32 value ∷ [], (SL.val Cursor-T.the-type Cursor-L.the-laws (x .1 .0) ∷ [], (vint w64 (x .0) ∷ [], tt))))) (λ κs. owns-make 𝓤 H A (Plan-T.the-row ∷ u32 ∷ Cursor-T.the-row ∷ usize ∷ []) (Ises (Plan-T.the-row ∷ u32 ∷ Cursor-T.the-row ∷ usize ∷ [])) (SL.makes Plan-T.the-type Plan-L.the-plain 𝓤 H A, (uint-makes 𝓤 H A W w32, (SL.makes Cursor-T.the-type Cursor-L.the-plain 𝓤 H A, (uint-makes 𝓤 H A W w64, tt)))) (plan, (value, ((x .1 .0), ((x .0), tt)))) (SL.val Plan-T.the-type Plan-L.the-laws plan ∷ [], (vint w32 value ∷ [], (SL.val Cursor-T.the-type Cursor-L.the-laws (x .1 .0) ∷ [], (vint w64 (x .0) ∷ [], tt)))) (is-plan, ((refl, fit-value), ((x .1 .1 .1 .0), ((refl, (below-word (x .1 .1 .0) (SL.owed Plan-T.the-type Plan-L.the-laws plan _ is-plan .1 .1 .0 .1))), tt))))) (λ κs δ₀. tt) (λ κs δ₀. factI 𝓤 (Suits plan (length words) value × (valueLength (blockIn plan words value) ≤ plan .shape .groups) × ((x .0) < fenceCount (plan .shape)) × ((x .1 .0) ≡ fenceBefore (plan .shape) (listIn plan words value) (x .0))) (emp 𝓤) (call-2 words fences plan value req (x .0) (x .1 .0) (x .1 .1 .1 .1) (ltb→lt (x .0) (plan .fences) less-h)))
         (λ r2. r2 ≡ fenceAt (plan .shape) (listIn plan words value) (x .0)) (λ κs δ₀ r2 ws. id⊢ 𝓤 _) (λ κs δ₀. (and-then ! (load ! (from ! (stop !)) (look ! 26 refl)) (and-then ! (load ! (from ! (stop !)) (look ! 22 refl)) (and-then ! (load ! (from ! (stop !)) (look ! 20 refl)) (and-then ! (load ! (from ! (stop !)) (look ! 16 refl)) (and-then ! (load ! (from ! (stop !)) (look ! 14 refl)) (no-more !)))))))
@@ -163,7 +163,7 @@ module _ {M : Type 1} (𝓤 : URA M) (H : Heap 𝓤) (A : Atoms 𝓤) (W : Given
         (λ r3. r3 ≡ getD fences ((value * (plan .fences)) + (x .0)) noFence) (λ κs δ₀ r3 ws. id⊢ 𝓤 _) (λ κs δ₀. (and-then ! (load ! (from ! (stop !)) (look ! 24 refl)) (and-then ! (load ! (from ! (stop !)) (look ! 6 refl)) (no-more !))))
         (λ u3 r3 e3 is3.
         land ! (from ! (stop !)) (init ! 12 refl (SL.lawful Fence-T.the-type Fence-L.the-laws 𝓤 H A W .typed r3 _ is3 .0)) $ rewrite ! 12 (λ (w : Val). ‵ (fat fullShare (Fence-L.mir) l₈ 0 w)) (ap only (SL.tells Fence-T.the-type Fence-L.the-laws r3 _ is3)) refl $
-        -- is_fence
+        -- steps::fence::is_fence
         calls-plain ! fm Boolean (plain (λ _. Cursor-T.the-row) ∷ plain (λ _. Fence-T.the-row) ∷ []) (yes, (yes, tt)) (is-fence-F.clauses 𝓤 H A mem run) known-is-fence
         (λ κs. (r2, (r3, tt))) (λ κs. (SL.val Cursor-T.the-type Cursor-L.the-laws r2 ∷ [], (SL.val Fence-T.the-type Fence-L.the-laws r3 ∷ [], tt))) (λ κs. owns-make 𝓤 H A (Cursor-T.the-row ∷ Fence-T.the-row ∷ []) (Ises (Cursor-T.the-row ∷ Fence-T.the-row ∷ [])) (SL.makes Cursor-T.the-type Cursor-L.the-plain 𝓤 H A, (SL.makes Fence-T.the-type Fence-L.the-plain 𝓤 H A, tt)) (r2, (r3, tt)) (SL.val Cursor-T.the-type Cursor-L.the-laws r2 ∷ [], (SL.val Fence-T.the-type Fence-L.the-laws r3 ∷ [], tt)) ((told Cursor-T.the-type Cursor-L.the-laws r2 _ is2), ((told Fence-T.the-type Fence-L.the-laws r3 _ is3), tt))) (λ κs. tt) (λ κs. id⊢ 𝓤 _)
         (λ r4. r4 ≡ isFence r2 r3) (λ κs r4 ws. id⊢ 𝓤 _) (λ κs. (and-then ! (load ! (from ! (stop !)) (look ! 17 refl)) (and-then ! (load ! (from ! (stop !)) (look ! 13 refl)) (no-more !))))
@@ -191,12 +191,12 @@ module _ {M : Type 1} (𝓤 : URA M) (H : Heap 𝓤) (A : Atoms 𝓤) (W : Given
         by ! (exits (vbool true) true (exit-2 words fences plan value req (x .0) (x .1 .0) (x .1 .1 .1 .1) (le-antisymm (x .1 .1 .0) (nltb→le (x .0) (plan .fences) done-h))) refl))) (0, (r1, (zero-le, ((told Cursor-T.the-type Cursor-L.the-laws r1 _ is1), (loop-start words fences plan value req r1 e1)))))))))))))))))))
 
 module _ {M : Type 1} (𝓤 : URA M) (H : Heap 𝓤) (A : Atoms 𝓤) (W : Given 𝓤 H A) (mem : Memory → SProp 𝓤) (run : Routine → Fun 𝓤) where
-  fences-right-walks : (𝓣 : Tables 𝓤 H) → Triple 𝓤 (𝓣 .C #index·first-word) (contractOf 𝓤 H A first-word-F.ended (first-word-F.clauses 𝓤 H A mem run)) → Triple 𝓤 (𝓣 .C #index·find-fence) (contractOf 𝓤 H A find-fence-F.ended (find-fence-F.clauses 𝓤 H A mem run)) → Triple 𝓤 (𝓣 .C #index·fence-at) (contractOf 𝓤 H A fence-at-F.ended (fence-at-F.clauses 𝓤 H A mem run)) → Triple 𝓤 (𝓣 .C #index·is-fence) (contractOf 𝓤 H A is-fence-F.ended (is-fence-F.clauses 𝓤 H A mem run)) → Walks 𝓤 H A fences-right-F.ended stayed (WpFn 𝓤 H (𝓣 .C) (𝓣 .Λ) code.function) (fences-right-F.clauses 𝓤 H A mem run)
+  fences-right-walks : (𝓣 : Tables 𝓤 H) → Triple 𝓤 (𝓣 .C #steps·first-word) (contractOf 𝓤 H A first-word-F.ended (first-word-F.clauses 𝓤 H A mem run)) → Triple 𝓤 (𝓣 .C #steps·find-fence) (contractOf 𝓤 H A find-fence-F.ended (find-fence-F.clauses 𝓤 H A mem run)) → Triple 𝓤 (𝓣 .C #index·fence-at) (contractOf 𝓤 H A fence-at-F.ended (fence-at-F.clauses 𝓤 H A mem run)) → Triple 𝓤 (𝓣 .C #steps·is-fence) (contractOf 𝓤 H A is-fence-F.ended (is-fence-F.clauses 𝓤 H A mem run)) → Walks 𝓤 H A fences-right-F.ended stayed (WpFn 𝓤 H (𝓣 .C) (𝓣 .Λ) code.function) (fences-right-F.clauses 𝓤 H A mem run)
   fences-right-walks 𝓣 known-first-word known-find-fence known-fence-at known-is-fence =
       walked 𝓤 H A fences-right-F.ended stayed (fences-right-F.clauses 𝓤 H A mem run) (WpFn 𝓤 H (𝓣 .C) (𝓣 .Λ) code.function) (λ κs. (slice-vals, (slice-vals, (SL.vals Plan-T.the-type Plan-L.the-laws, (uint-vals w32, tt))))) (λ κs. (shr-slice-tells (named 0) (κs .0) u32, (shr-slice-tells (named 1) (κs .1 .0) Fence-T.the-row, (SL.tells Plan-T.the-type Plan-L.the-laws, (uint-tells w32, tt)))))
       (λ κs qs bounds a g are. needs 𝓤 _ _ (walk 𝓤 H A W mem run (κs .0) (κs .1 .0) (qs .0) (qs .1 .0) (a .0 .ptr .0) (a .0 .ptr .1) (a .0 .name) (a .0 .now) (a .1 .0 .ptr .0) (a .1 .0 .ptr .1) (a .1 .0 .name) (a .1 .0 .now) (a .1 .1 .0) (a .1 .1 .1 .0) 𝓣 (fmOf 𝓤 H (W .laws) 𝓣) known-first-word known-find-fence known-fence-at known-is-fence (are .0 .0 .1) (are .1 .0 .0 .1) (are .1 .1 .0) (are .1 .1 .1 .0 .1)))
 
-fences-right-meets : {M : Type 1} (𝓤 : URA M) (H : Heap 𝓤) (A : Atoms 𝓤) (W : Given 𝓤 H A) (mem : Memory → SProp 𝓤) (run : Routine → Fun 𝓤) (𝓣 : Tables 𝓤 H) → Triple 𝓤 (𝓣 .C #index·first-word) (contractOf 𝓤 H A first-word-F.ended (first-word-F.clauses 𝓤 H A mem run)) → Triple 𝓤 (𝓣 .C #index·find-fence) (contractOf 𝓤 H A find-fence-F.ended (find-fence-F.clauses 𝓤 H A mem run)) → Triple 𝓤 (𝓣 .C #index·fence-at) (contractOf 𝓤 H A fence-at-F.ended (fence-at-F.clauses 𝓤 H A mem run)) → Triple 𝓤 (𝓣 .C #index·is-fence) (contractOf 𝓤 H A is-fence-F.ended (is-fence-F.clauses 𝓤 H A mem run)) → Meets 𝓤 H A fences-right-F.signature (WpFn 𝓤 H (𝓣 .C) (𝓣 .Λ) code.function) (fences-right-F.spec 𝓤 H A mem run)
+fences-right-meets : {M : Type 1} (𝓤 : URA M) (H : Heap 𝓤) (A : Atoms 𝓤) (W : Given 𝓤 H A) (mem : Memory → SProp 𝓤) (run : Routine → Fun 𝓤) (𝓣 : Tables 𝓤 H) → Triple 𝓤 (𝓣 .C #steps·first-word) (contractOf 𝓤 H A first-word-F.ended (first-word-F.clauses 𝓤 H A mem run)) → Triple 𝓤 (𝓣 .C #steps·find-fence) (contractOf 𝓤 H A find-fence-F.ended (find-fence-F.clauses 𝓤 H A mem run)) → Triple 𝓤 (𝓣 .C #index·fence-at) (contractOf 𝓤 H A fence-at-F.ended (fence-at-F.clauses 𝓤 H A mem run)) → Triple 𝓤 (𝓣 .C #steps·is-fence) (contractOf 𝓤 H A is-fence-F.ended (is-fence-F.clauses 𝓤 H A mem run)) → Meets 𝓤 H A fences-right-F.signature (WpFn 𝓤 H (𝓣 .C) (𝓣 .Λ) code.function) (fences-right-F.spec 𝓤 H A mem run)
 fences-right-meets 𝓤 H A W mem run 𝓣 known-first-word known-find-fence known-fence-at known-is-fence =
     walk-meets 𝓤 H A fences-right-F.ended stayed W (goes-dropped 𝓤 H A W 2 (shrSliceOf (0 ∷ []) tt (plain (λ _. u32))) yes (λ κs x f. refl), (goes-dropped 𝓤 H A W 2 (shrSliceOf (1 ∷ []) tt (plain (λ _. Fence-T.the-row))) yes (λ κs x f. refl), (goes-dropped 𝓤 H A W 2 (plain (λ _. Plan-T.the-row)) yes (λ κs x f. refl), (goes-dropped 𝓤 H A W 2 (plain (λ _. u32)) yes (λ κs x f. refl), tt))))
     (fences-right-F.clauses 𝓤 H A mem run) (WpFn 𝓤 H (𝓣 .C) (𝓣 .Λ) code.function) (WpFn-mono 𝓤 H (W .laws) 𝓣 code.function) (fences-right-walks 𝓤 H A W mem run 𝓣 known-first-word known-find-fence known-fence-at known-is-fence)
@@ -207,7 +207,7 @@ fences-right-spec 𝓤 H 𝓜 𝓖 𝓡 =
     entered 𝓤 H (tripleOf 𝓤 H (𝓖 .A) fences-right-F.signature (fences-right-F.spec 𝓤 H (𝓖 .A) (𝓜 .mem) (𝓡 .run)))
     (tables 𝓤 H 𝓜 𝓡 code.env .C) (tables 𝓤 H 𝓜 𝓡 code.env .Λ) #index·fences-right code.function (code.unfolded 𝓤 H 𝓜 𝓡)
     (fences-right-meets 𝓤 H (𝓖 .A) (givenOf 𝓤 H 𝓜 𝓖) (𝓜 .mem) (𝓡 .run) (tablesOf 𝓤 H 𝓜 (tables 𝓤 H 𝓜 𝓡 code.env))
-    (cited 𝓤 H (tripleOf 𝓤 H (𝓖 .A) first-word-F.signature (first-word-F.spec 𝓤 H (𝓖 .A) (𝓜 .mem) (𝓡 .run))) 𝓜 𝓡 code.env #index·first-word first-word-def.routine code.calls-index·fences·first-word (first-word-thm.met 𝓤 H 𝓜 𝓖 𝓡))
-    (cited 𝓤 H (tripleOf 𝓤 H (𝓖 .A) find-fence-F.signature (find-fence-F.spec 𝓤 H (𝓖 .A) (𝓜 .mem) (𝓡 .run))) 𝓜 𝓡 code.env #index·find-fence find-fence-def.routine code.calls-index·fences·find-fence (find-fence-thm.met 𝓤 H 𝓜 𝓖 𝓡))
+    (cited 𝓤 H (tripleOf 𝓤 H (𝓖 .A) first-word-F.signature (first-word-F.spec 𝓤 H (𝓖 .A) (𝓜 .mem) (𝓡 .run))) 𝓜 𝓡 code.env #steps·first-word first-word-def.routine code.calls-steps·fence·first-word (first-word-thm.met 𝓤 H 𝓜 𝓖 𝓡))
+    (cited 𝓤 H (tripleOf 𝓤 H (𝓖 .A) find-fence-F.signature (find-fence-F.spec 𝓤 H (𝓖 .A) (𝓜 .mem) (𝓡 .run))) 𝓜 𝓡 code.env #steps·find-fence find-fence-def.routine code.calls-steps·fence·find-fence (find-fence-thm.met 𝓤 H 𝓜 𝓖 𝓡))
     (cited 𝓤 H (tripleOf 𝓤 H (𝓖 .A) fence-at-F.signature (fence-at-F.spec 𝓤 H (𝓖 .A) (𝓜 .mem) (𝓡 .run))) 𝓜 𝓡 code.env #index·fence-at fence-at-def.routine code.calls-index·fences·fence-at (fence-at-thm.met 𝓤 H 𝓜 𝓖 𝓡))
-    (cited 𝓤 H (tripleOf 𝓤 H (𝓖 .A) is-fence-F.signature (is-fence-F.spec 𝓤 H (𝓖 .A) (𝓜 .mem) (𝓡 .run))) 𝓜 𝓡 code.env #index·is-fence is-fence-def.routine code.calls-index·fences·is-fence (is-fence-thm.met 𝓤 H 𝓜 𝓖 𝓡)))
+    (cited 𝓤 H (tripleOf 𝓤 H (𝓖 .A) is-fence-F.signature (is-fence-F.spec 𝓤 H (𝓖 .A) (𝓜 .mem) (𝓡 .run))) 𝓜 𝓡 code.env #steps·is-fence is-fence-def.routine code.calls-steps·fence·is-fence (is-fence-thm.met 𝓤 H 𝓜 𝓖 𝓡)))

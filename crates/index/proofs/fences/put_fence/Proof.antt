@@ -37,9 +37,9 @@ use denote.Triple.Entry.{Vals, onEntry}
 use denote.Triple.Spec.{Meets, tripleOf}
 use denote.Triple.Table.{entered}
 use denote.Triple.Walked.{says, needs, Stays, stay-slice, stay-none, walkOf, Walks, ends-at, walked, goes-slice, goes-none, walk-meets}
-use Rattle.index.specs.declared.header.Fence.{Fence}
-use Rattle.index.proofs.header.Fence as T
-use Rattle.index.proofs.header.Fence.Laws as T′
+use Rattle.steps.specs.declared.header.Fence.{Fence}
+use Rattle.steps.proofs.header.Fence as T
+use Rattle.steps.proofs.header.Fence.Laws as T′
 use Rattle.walks.proofs.Bytes.{in-bytes}
 use Rattle.index.proofs.fences.put_fence.Key.{name as #index·put-fence}
 use Rattle.index.proofs.fences.put_fence as put-fence

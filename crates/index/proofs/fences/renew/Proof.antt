@@ -41,29 +41,29 @@ use denote.Triple.Table.{entered, cited}
 use denote.Triple.Walked.{says, needs, Stays, stay-slice, stay-dropped, walkOf, Walks, ends-at, walked, goes-slice, goes-dropped, walk-meets}
 use Rattle.blocks.specs.Shape.{fenceCount}
 use Rattle.blocks.specs.Block.{valueLength}
-use Rattle.blocks.specs.Fences.{cursorAt, fenceAt}
-use Rattle.index.specs.Alter.{Suits, Fenced, blockIn, listIn, renewedFences}
-use Rattle.index.specs.Fences.{fence, fenceBefore}
+use Rattle.steps.specs.Alter.{Fenced, blockIn, listIn, renewedFences, Suits}
+use Rattle.steps.specs.Fences.{fence, fenceBefore}
 use Rattle.index.proofs.fences.Turns.{fence-inside, fence-fits, first-fits, below, goes-on, madeTo, none-made, makes, all-made}
+use Rattle.blocks.specs.Fences.{cursorAt, fenceAt}
 use Rattle.blocks.specs.declared.fence.Cursor.{Cursor}
 use Rattle.blocks.proofs.fence.Cursor as Cursor-T
 use Rattle.blocks.proofs.fence.Cursor.Laws as Cursor-L
-use Rattle.index.specs.declared.header.Fence.{Fence}
-use Rattle.index.proofs.header.Fence as Fence-T
-use Rattle.index.specs.declared.entry.Plan.{Plan}
-use Rattle.index.proofs.entry.Plan as Plan-T
-use Rattle.index.proofs.entry.Plan.Laws as Plan-L
+use Rattle.steps.specs.declared.header.Fence.{Fence}
+use Rattle.steps.proofs.header.Fence as Fence-T
+use Rattle.steps.specs.declared.entry.Plan.{Plan}
+use Rattle.steps.proofs.entry.Plan as Plan-T
+use Rattle.steps.proofs.entry.Plan.Laws as Plan-L
 use Rattle.walks.proofs.Lend.{ref}
 use Rattle.walks.proofs.Flow.{Nearer, Nearer-wf, told, while-loops, assigns-again, frees-all, below-word, next-le, next-nearer, widen-32-64}
 use Rattle.walks.proofs.Calls.{contractOf, calls-mut, calls-plain, calls-shr}
-use Rattle.index.proofs.fences.first_word as first-word-F
-use Rattle.index.proofs.fences.first_word.Symbol as first-word-def
-use Rattle.index.proofs.fences.first_word.Symbol.{name as #index·first-word}
-use Rattle.index.proofs.fences.first_word.Met as first-word-thm
-use Rattle.index.proofs.fences.find_fence as find-fence-F
-use Rattle.index.proofs.fences.find_fence.Symbol as find-fence-def
-use Rattle.index.proofs.fences.find_fence.Symbol.{name as #index·find-fence}
-use Rattle.index.proofs.fences.find_fence.Met as find-fence-thm
+use Rattle.steps.proofs.fence.first_word as first-word-F
+use Rattle.steps.proofs.fence.first_word.Symbol as first-word-def
+use Rattle.steps.proofs.fence.first_word.Symbol.{name as #steps·first-word}
+use Rattle.steps.proofs.fence.first_word.Met as first-word-thm
+use Rattle.steps.proofs.fence.find_fence as find-fence-F
+use Rattle.steps.proofs.fence.find_fence.Symbol as find-fence-def
+use Rattle.steps.proofs.fence.find_fence.Symbol.{name as #steps·find-fence}
+use Rattle.steps.proofs.fence.find_fence.Met as find-fence-thm
 use Rattle.index.proofs.fences.put_fence as put-fence-F
 use Rattle.index.proofs.fences.put_fence.Symbol as put-fence-def
 use Rattle.index.proofs.fences.put_fence.Symbol.{name as #index·put-fence}
@@ -120,7 +120,7 @@ module _ {M : Type 1} (𝓤 : URA M) (H : Heap 𝓤) (A : Atoms 𝓤) (W : Given
       suffices ! _ (ends-at 𝓤 H A renew-F.ended stayed (renew-F.clauses 𝓤 H A mem run) W bound-of vunit tt (tt, (fences′, (tt, (tt, tt)))) (tt, (n-fences′, (tt, (tt, tt))))) $ says ! e $
       nothing ! $ move ! (2 ∷ 0 ∷ []) $ join ! $ move ! (1 ∷ 0 ∷ []) $ join ! $ frame ! $ nothing ! $ nothing ! $ fjoin ! $ nothing ! $ fjoin ! $ move ! (1 ∷ 0 ∷ []) $ fjoin ! $ nothing ! $ fjoin ! $ frame ! $ feqI ! (List Val) (vunit ∷ []) (vunit ∷ []) refl $ done !
 
-  module _ (𝓣 : Tables 𝓤 H) (fm : FmC 𝓤 H (W .laws) (𝓣 .C)) (known-first-word : Triple 𝓤 (𝓣 .C #index·first-word) (contractOf 𝓤 H A first-word-F.ended (first-word-F.clauses 𝓤 H A mem run))) (known-find-fence : Triple 𝓤 (𝓣 .C #index·find-fence) (contractOf 𝓤 H A find-fence-F.ended (find-fence-F.clauses 𝓤 H A mem run))) (known-put-fence : Triple 𝓤 (𝓣 .C #index·put-fence) (contractOf 𝓤 H A put-fence-F.ended (put-fence-F.clauses 𝓤 H A mem run))) where
+  module _ (𝓣 : Tables 𝓤 H) (fm : FmC 𝓤 H (W .laws) (𝓣 .C)) (known-first-word : Triple 𝓤 (𝓣 .C #steps·first-word) (contractOf 𝓤 H A first-word-F.ended (first-word-F.clauses 𝓤 H A mem run))) (known-find-fence : Triple 𝓤 (𝓣 .C #steps·find-fence) (contractOf 𝓤 H A find-fence-F.ended (find-fence-F.clauses 𝓤 H A mem run))) (known-put-fence : Triple 𝓤 (𝓣 .C #index·put-fence) (contractOf 𝓤 H A put-fence-F.ended (put-fence-F.clauses 𝓤 H A mem run))) where
     walk : Room u32 (length words) → Room Fence-T.the-row (length fences) → Is Plan-T.the-row plan (SL.vals Plan-T.the-type Plan-L.the-laws plan) → value < 2 ^ 32 → Fenced plan (length words) (length fences) value × (valueLength (blockIn plan words value) ≤ plan .shape .groups) → ent 𝓤 (onEntry 𝓤 H A renew-F.signature (κ₀, (κ₁, tt)) (q₀, (q₁, tt)) args-of vals-of) (WpFn 𝓤 H (𝓣 .C) (𝓣 .Λ) code.function (sliceVal (b₀, o₀) (length words) ∷ sliceVal (b₁, o₁) (length fences) ∷ SL.val Plan-T.the-type Plan-L.the-laws plan ∷ vint w32 value ∷ []) Post)
     walk room-words room-fences is-plan fit-value req =
         qed W ((‵ (flft κ₀ q₀) ⊛ (‵ (flft κ₁ q₁) ⊛ ‵ ftrue)) ∷ ‵ (owns (ShrSlice (named 0) κ₀ u32 ∷ MutSlice (named 1) κ₁ Fence-T.the-row ∷ Plan-T.the-row ∷ u32 ∷ []) args-of vals-of) ∷ []) ∵ enter ! (𝓣 .C) (𝓣 .Λ) code.function (sliceVal (b₀, o₀) (length words) ∷ sliceVal (b₁, o₁) (length fences) ∷ SL.val Plan-T.the-type Plan-L.the-laws plan ∷ vint w32 value ∷ []) _ $
@@ -130,7 +130,7 @@ module _ {M : Type 1} (𝓤 : URA M) (H : Heap 𝓤) (A : Atoms 𝓤) (W : Given
         -- [words's token; words; fences's token; fences; _13; …; _0; …]
         assigns ! (un ! (load ! (from ! (stop !)) (look ! 22 refl)) (record { fits = (widen-32-64 fit-value) })) (from ! (stop !)) (init ! 14 refl (tt, record { fits = (widen-32-64 fit-value) })) $
         assigns ! (bin ! (load ! (from ! (stop !)) (look ! 14 refl)) (load ! (from ! (fld ! refl (stop !))) (look-in ! 24 (sub ! 2 refl (whole !)))) (record { fits = (fits-1 words fences plan value room-fences req) })) (from ! (stop !)) (init ! 20 refl (tt, record { fits = (fits-1 words fences plan value room-fences req) })) $
-        -- first_word
+        -- steps::fence::first_word
         calls-plain ! fm Cursor-T.the-row [] tt (first-word-F.clauses 𝓤 H A mem run) known-first-word
         (λ κs. tt) (λ κs. tt) (λ κs. owns-make 𝓤 H A [] (Ises []) tt tt tt tt) (λ κs. tt) (λ κs. id⊢ 𝓤 _)
         (λ r1. r1 ≡ cursorAt 0 0) (λ κs r1 ws. id⊢ 𝓤 _) (λ κs. (no-more !))
@@ -143,7 +143,7 @@ module _ {M : Type 1} (𝓤 : URA M) (H : Heap 𝓤) (A : Atoms 𝓤) (W : Given
         assigns ! (bin ! (load ! (from ! (stop !)) (look ! 16 refl)) (load ! (from ! (fld ! refl (stop !))) (look-in ! 24 (sub ! 2 refl (whole !)))) tt) (from ! (stop !)) (init ! 12 refl (tt, tt)) $
         whiles _ _ (load ! (from ! (stop !)) (look ! 12 refl))
         (λ less-h.
-        -- find_fence
+        -- steps::fence::find_fence
         calls-shr ! fm u32 Cursor-T.the-row (plain (λ _. Plan-T.the-row) ∷ plain (λ _. u32) ∷ plain (λ _. Cursor-T.the-row) ∷ plain (λ _. usize) ∷ []) (yes, (yes, (yes, (yes, tt)))) (find-fence-F.clauses 𝓤 H A mem run) known-find-fence b₀ o₀ γ₀ words (length words) refl
         (λ κs. (plan, (value, ((x .1 .0), ((x .0), tt))))) (λ κs. (SL.val Plan-T.the-type Plan-L.the-laws plan ∷ [], (vint w32 value ∷ [], (SL.val Cursor-T.the-type Cursor-L.the-laws (x .1 .0) ∷ [], (vint w64 (x .0) ∷ [], tt))))) (λ κs. owns-make 𝓤 H A (Plan-T.the-row ∷ u32 ∷ Cursor-T.the-row ∷ usize ∷ []) (Ises (Plan-T.the-row ∷ u32 ∷ Cursor-T.the-row ∷ usize ∷ [])) (SL.makes Plan-T.the-type Plan-L.the-plain 𝓤 H A, (uint-makes 𝓤 H A W w32, (SL.makes Cursor-T.the-type Cursor-L.the-plain 𝓤 H A, (uint-makes 𝓤 H A W w64, tt)))) (plan, (value, ((x .1 .0), ((x .0), tt)))) (SL.val Plan-T.the-type Plan-L.the-laws plan ∷ [], (vint w32 value ∷ [], (SL.val Cursor-T.the-type Cursor-L.the-laws (x .1 .0) ∷ [], (vint w64 (x .0) ∷ [], tt)))) (is-plan, ((refl, fit-value), ((x .1 .1 .1 .1 .0), ((refl, (below-word (x .1 .1 .1 .0) (SL.owed Plan-T.the-type Plan-L.the-laws plan _ is-plan .1 .1 .0 .1))), tt))))) (λ κs δ₀. tt) (λ κs δ₀. factI 𝓤 (Suits plan (length words) value × (valueLength (blockIn plan words value) ≤ plan .shape .groups) × ((x .0) < fenceCount (plan .shape)) × ((x .1 .0) ≡ fenceBefore (plan .shape) (listIn plan words value) (x .0))) (emp 𝓤) (call-2 words fences plan value req (x .0) (x .1 .0) (x .1 .1 .0) (x .1 .1 .1 .1 .1 .1) (ltb→lt (x .0) (plan .fences) less-h)))
         (λ r2. r2 ≡ fenceAt (plan .shape) (listIn plan words value) (x .0)) (λ κs δ₀ r2 ws. id⊢ 𝓤 _) (λ κs δ₀. (and-then ! (load ! (from ! (stop !)) (look ! 28 refl)) (and-then ! (load ! (from ! (stop !)) (look ! 24 refl)) (and-then ! (load ! (from ! (stop !)) (look ! 22 refl)) (and-then ! (load ! (from ! (stop !)) (look ! 18 refl)) (and-then ! (load ! (from ! (stop !)) (look ! 16 refl)) (no-more !)))))))
@@ -171,12 +171,12 @@ module _ {M : Type 1} (𝓤 : URA M) (H : Heap 𝓤) (A : Atoms 𝓤) (W : Given
         by ! (exits (x .1 .1 .0) (x .1 .1 .1 .1 .1 .0) (exit-1 words fences plan value req (x .0) (x .1 .0) (x .1 .1 .0) (x .1 .1 .1 .1 .1 .1) (le-antisymm (x .1 .1 .1 .0) (nltb→le (x .0) (plan .fences) done-h)))))) (0, (r1, (fences, (zero-le, ((told Cursor-T.the-type Cursor-L.the-laws r1 _ is1), (refl, (loop-start words fences plan value req r1 e1))))))))))))))))))))))
 
 module _ {M : Type 1} (𝓤 : URA M) (H : Heap 𝓤) (A : Atoms 𝓤) (W : Given 𝓤 H A) (mem : Memory → SProp 𝓤) (run : Routine → Fun 𝓤) where
-  renew-walks : (𝓣 : Tables 𝓤 H) → Triple 𝓤 (𝓣 .C #index·first-word) (contractOf 𝓤 H A first-word-F.ended (first-word-F.clauses 𝓤 H A mem run)) → Triple 𝓤 (𝓣 .C #index·find-fence) (contractOf 𝓤 H A find-fence-F.ended (find-fence-F.clauses 𝓤 H A mem run)) → Triple 𝓤 (𝓣 .C #index·put-fence) (contractOf 𝓤 H A put-fence-F.ended (put-fence-F.clauses 𝓤 H A mem run)) → Walks 𝓤 H A renew-F.ended stayed (WpFn 𝓤 H (𝓣 .C) (𝓣 .Λ) code.function) (renew-F.clauses 𝓤 H A mem run)
+  renew-walks : (𝓣 : Tables 𝓤 H) → Triple 𝓤 (𝓣 .C #steps·first-word) (contractOf 𝓤 H A first-word-F.ended (first-word-F.clauses 𝓤 H A mem run)) → Triple 𝓤 (𝓣 .C #steps·find-fence) (contractOf 𝓤 H A find-fence-F.ended (find-fence-F.clauses 𝓤 H A mem run)) → Triple 𝓤 (𝓣 .C #index·put-fence) (contractOf 𝓤 H A put-fence-F.ended (put-fence-F.clauses 𝓤 H A mem run)) → Walks 𝓤 H A renew-F.ended stayed (WpFn 𝓤 H (𝓣 .C) (𝓣 .Λ) code.function) (renew-F.clauses 𝓤 H A mem run)
   renew-walks 𝓣 known-first-word known-find-fence known-put-fence =
       walked 𝓤 H A renew-F.ended stayed (renew-F.clauses 𝓤 H A mem run) (WpFn 𝓤 H (𝓣 .C) (𝓣 .Λ) code.function) (λ κs. (slice-vals, (slice-vals, (SL.vals Plan-T.the-type Plan-L.the-laws, (uint-vals w32, tt))))) (λ κs. (shr-slice-tells (named 0) (κs .0) u32, (mut-slice-tells (named 1) (κs .1 .0) Fence-T.the-row, (SL.tells Plan-T.the-type Plan-L.the-laws, (uint-tells w32, tt)))))
       (λ κs qs bounds a g are. needs 𝓤 _ _ (walk 𝓤 H A W mem run (κs .0) (κs .1 .0) (qs .0) (qs .1 .0) (a .0 .ptr .0) (a .0 .ptr .1) (a .0 .name) (a .0 .now) (a .1 .0 .ptr .0) (a .1 .0 .ptr .1) (a .1 .0 .name) (a .1 .0 .now) (a .1 .1 .0) (a .1 .1 .1 .0) 𝓣 (fmOf 𝓤 H (W .laws) 𝓣) known-first-word known-find-fence known-put-fence (are .0 .0 .1) (are .1 .0 .0 .1) (are .1 .1 .0) (are .1 .1 .1 .0 .1)))
 
-renew-meets : {M : Type 1} (𝓤 : URA M) (H : Heap 𝓤) (A : Atoms 𝓤) (W : Given 𝓤 H A) (mem : Memory → SProp 𝓤) (run : Routine → Fun 𝓤) (𝓣 : Tables 𝓤 H) → Triple 𝓤 (𝓣 .C #index·first-word) (contractOf 𝓤 H A first-word-F.ended (first-word-F.clauses 𝓤 H A mem run)) → Triple 𝓤 (𝓣 .C #index·find-fence) (contractOf 𝓤 H A find-fence-F.ended (find-fence-F.clauses 𝓤 H A mem run)) → Triple 𝓤 (𝓣 .C #index·put-fence) (contractOf 𝓤 H A put-fence-F.ended (put-fence-F.clauses 𝓤 H A mem run)) → Meets 𝓤 H A renew-F.signature (WpFn 𝓤 H (𝓣 .C) (𝓣 .Λ) code.function) (renew-F.spec 𝓤 H A mem run)
+renew-meets : {M : Type 1} (𝓤 : URA M) (H : Heap 𝓤) (A : Atoms 𝓤) (W : Given 𝓤 H A) (mem : Memory → SProp 𝓤) (run : Routine → Fun 𝓤) (𝓣 : Tables 𝓤 H) → Triple 𝓤 (𝓣 .C #steps·first-word) (contractOf 𝓤 H A first-word-F.ended (first-word-F.clauses 𝓤 H A mem run)) → Triple 𝓤 (𝓣 .C #steps·find-fence) (contractOf 𝓤 H A find-fence-F.ended (find-fence-F.clauses 𝓤 H A mem run)) → Triple 𝓤 (𝓣 .C #index·put-fence) (contractOf 𝓤 H A put-fence-F.ended (put-fence-F.clauses 𝓤 H A mem run)) → Meets 𝓤 H A renew-F.signature (WpFn 𝓤 H (𝓣 .C) (𝓣 .Λ) code.function) (renew-F.spec 𝓤 H A mem run)
 renew-meets 𝓤 H A W mem run 𝓣 known-first-word known-find-fence known-put-fence =
     walk-meets 𝓤 H A renew-F.ended stayed W (goes-dropped 𝓤 H A W 2 (shrSliceOf (0 ∷ []) tt (plain (λ _. u32))) yes (λ κs x f. refl), (goes-slice 𝓤 H A W 2 1 tt (plain (λ _. Fence-T.the-row)), (goes-dropped 𝓤 H A W 2 (plain (λ _. Plan-T.the-row)) yes (λ κs x f. refl), (goes-dropped 𝓤 H A W 2 (plain (λ _. u32)) yes (λ κs x f. refl), tt))))
     (renew-F.clauses 𝓤 H A mem run) (WpFn 𝓤 H (𝓣 .C) (𝓣 .Λ) code.function) (WpFn-mono 𝓤 H (W .laws) 𝓣 code.function) (renew-walks 𝓤 H A W mem run 𝓣 known-first-word known-find-fence known-put-fence)
@@ -187,6 +187,6 @@ renew-spec 𝓤 H 𝓜 𝓖 𝓡 =
     entered 𝓤 H (tripleOf 𝓤 H (𝓖 .A) renew-F.signature (renew-F.spec 𝓤 H (𝓖 .A) (𝓜 .mem) (𝓡 .run)))
     (tables 𝓤 H 𝓜 𝓡 code.env .C) (tables 𝓤 H 𝓜 𝓡 code.env .Λ) #index·renew code.function (code.unfolded 𝓤 H 𝓜 𝓡)
     (renew-meets 𝓤 H (𝓖 .A) (givenOf 𝓤 H 𝓜 𝓖) (𝓜 .mem) (𝓡 .run) (tablesOf 𝓤 H 𝓜 (tables 𝓤 H 𝓜 𝓡 code.env))
-    (cited 𝓤 H (tripleOf 𝓤 H (𝓖 .A) first-word-F.signature (first-word-F.spec 𝓤 H (𝓖 .A) (𝓜 .mem) (𝓡 .run))) 𝓜 𝓡 code.env #index·first-word first-word-def.routine code.calls-index·fences·first-word (first-word-thm.met 𝓤 H 𝓜 𝓖 𝓡))
-    (cited 𝓤 H (tripleOf 𝓤 H (𝓖 .A) find-fence-F.signature (find-fence-F.spec 𝓤 H (𝓖 .A) (𝓜 .mem) (𝓡 .run))) 𝓜 𝓡 code.env #index·find-fence find-fence-def.routine code.calls-index·fences·find-fence (find-fence-thm.met 𝓤 H 𝓜 𝓖 𝓡))
+    (cited 𝓤 H (tripleOf 𝓤 H (𝓖 .A) first-word-F.signature (first-word-F.spec 𝓤 H (𝓖 .A) (𝓜 .mem) (𝓡 .run))) 𝓜 𝓡 code.env #steps·first-word first-word-def.routine code.calls-steps·fence·first-word (first-word-thm.met 𝓤 H 𝓜 𝓖 𝓡))
+    (cited 𝓤 H (tripleOf 𝓤 H (𝓖 .A) find-fence-F.signature (find-fence-F.spec 𝓤 H (𝓖 .A) (𝓜 .mem) (𝓡 .run))) 𝓜 𝓡 code.env #steps·find-fence find-fence-def.routine code.calls-steps·fence·find-fence (find-fence-thm.met 𝓤 H 𝓜 𝓖 𝓡))
     (cited 𝓤 H (tripleOf 𝓤 H (𝓖 .A) put-fence-F.signature (put-fence-F.spec 𝓤 H (𝓖 .A) (𝓜 .mem) (𝓡 .run))) 𝓜 𝓡 code.env #index·put-fence put-fence-def.routine code.calls-index·fences·put-fence (put-fence-thm.met 𝓤 H 𝓜 𝓖 𝓡)))

@@ -39,44 +39,44 @@ use denote.Triple.Spec.{Meets, tripleOf}
 use denote.Triple.Statement.{Triple}
 use denote.Triple.Table.{entered, cited}
 use denote.Triple.Walked.{says, needs, Stays, stay-dropped, walkOf, Walks, ends-at, walked, goes-dropped, walk-meets}
-use Rattle.index.specs.Entry.{Planned}
-use Rattle.index.specs.Memory.{memoryOf}
-use Rattle.index.specs.Reading.{rowOf, readRow, noRow, rowStep}
+use Rattle.steps.specs.Entry.{Planned}
+use Rattle.steps.specs.Memory.{memoryOf}
+use Rattle.steps.specs.Reading.{rowOf, readRow, noRow, rowStep}
 use Rattle.index.proofs.reading.Turns.{some-spacing, place-fits, nearest-fits, may-read, reads, all-read}
+use Rattle.steps.specs.Alter.{Suits, blockIn}
 use Rattle.blocks.specs.Read.{readGroup}
-use Rattle.index.specs.Alter.{Suits, blockIn}
-use Rattle.index.specs.Fences.{noFence}
-use Rattle.index.specs.declared.header.Fence.{Fence}
-use Rattle.index.proofs.header.Fence as Fence-T
-use Rattle.index.proofs.header.Fence.Laws as Fence-L
-use Rattle.index.specs.declared.header.Header.{Header}
-use Rattle.index.proofs.header.Header as Header-T
-use Rattle.index.proofs.header.Header.Laws as Header-L
-use Rattle.index.specs.declared.entry.Plan.{Plan}
-use Rattle.index.proofs.entry.Plan as Plan-T
-use Rattle.index.proofs.entry.Plan.Laws as Plan-L
-use Rattle.index.specs.declared.row.Row.{Row}
-use Rattle.index.proofs.row.Row as Row-T
-use Rattle.index.proofs.row.Row.Laws as Row-L
+use Rattle.steps.specs.Fences.{noFence}
+use Rattle.steps.specs.declared.header.Fence.{Fence}
+use Rattle.steps.proofs.header.Fence as Fence-T
+use Rattle.steps.proofs.header.Fence.Laws as Fence-L
+use Rattle.steps.specs.declared.header.Header.{Header}
+use Rattle.steps.proofs.header.Header as Header-T
+use Rattle.steps.proofs.header.Header.Laws as Header-L
+use Rattle.steps.specs.declared.entry.Plan.{Plan}
+use Rattle.steps.proofs.entry.Plan as Plan-T
+use Rattle.steps.proofs.entry.Plan.Laws as Plan-L
+use Rattle.steps.specs.declared.row.Row.{Row}
+use Rattle.steps.proofs.row.Row as Row-T
+use Rattle.steps.proofs.row.Row.Laws as Row-L
 use Rattle.walks.proofs.Lend.{ref}
 use Rattle.walks.proofs.Flow.{Nearer, Nearer-wf, told, while-loops, assigns-again, frees-all, below-word, next-le, next-nearer, widen-32-64}
 use Rattle.walks.proofs.Calls.{contractOf, calls-plain, calls-shr}
-use Rattle.index.proofs.reading.fence_of as fence-of-F
-use Rattle.index.proofs.reading.fence_of.Symbol as fence-of-def
-use Rattle.index.proofs.reading.fence_of.Symbol.{name as #index·fence-of}
-use Rattle.index.proofs.reading.fence_of.Met as fence-of-thm
-use Rattle.index.proofs.row.no_row as no-row-F
-use Rattle.index.proofs.row.no_row.Symbol as no-row-def
-use Rattle.index.proofs.row.no_row.Symbol.{name as #index·no-row}
-use Rattle.index.proofs.row.no_row.Met as no-row-thm
+use Rattle.steps.proofs.fence.fence_of as fence-of-F
+use Rattle.steps.proofs.fence.fence_of.Symbol as fence-of-def
+use Rattle.steps.proofs.fence.fence_of.Symbol.{name as #steps·fence-of}
+use Rattle.steps.proofs.fence.fence_of.Met as fence-of-thm
+use Rattle.steps.proofs.row.no_row as no-row-F
+use Rattle.steps.proofs.row.no_row.Symbol as no-row-def
+use Rattle.steps.proofs.row.no_row.Symbol.{name as #steps·no-row}
+use Rattle.steps.proofs.row.no_row.Met as no-row-thm
 use Rattle.index.proofs.fences.fence_at as fence-at-F
 use Rattle.index.proofs.fences.fence_at.Symbol as fence-at-def
 use Rattle.index.proofs.fences.fence_at.Symbol.{name as #index·fence-at}
 use Rattle.index.proofs.fences.fence_at.Met as fence-at-thm
-use Rattle.index.proofs.row.row_step as row-step-F
-use Rattle.index.proofs.row.row_step.Symbol as row-step-def
-use Rattle.index.proofs.row.row_step.Symbol.{name as #index·row-step}
-use Rattle.index.proofs.row.row_step.Met as row-step-thm
+use Rattle.steps.proofs.row.row_step as row-step-F
+use Rattle.steps.proofs.row.row_step.Symbol as row-step-def
+use Rattle.steps.proofs.row.row_step.Symbol.{name as #steps·row-step}
+use Rattle.steps.proofs.row.row_step.Met as row-step-thm
 use Rattle.index.proofs.reading.read_row.Key.{name as #index·read-row}
 use Rattle.index.proofs.reading.read_row as read-row-F
 use Rattle.index.proofs.reading.read_row.Statement as stated
@@ -126,7 +126,7 @@ module _ {M : Type 1} (𝓤 : URA M) (H : Heap 𝓤) (A : Atoms 𝓤) (W : Given
       suffices ! _ (ends-at 𝓤 H A read-row-F.ended stayed (read-row-F.clauses 𝓤 H A mem run) W bound-of u r (tt, (tt, (tt, (tt, (tt, tt))))) (tt, (tt, (tt, (tt, (tt, tt)))))) $ says ! e $
       nothing ! $ move ! (2 ∷ 0 ∷ []) $ join ! $ move ! (1 ∷ 0 ∷ []) $ join ! $ frame ! $ nothing ! $ nothing ! $ fjoin ! $ nothing ! $ fjoin ! $ nothing ! $ fjoin ! $ nothing ! $ fjoin ! $ nothing ! $ fjoin ! $ frame ! $ owned ! Row-T.the-row (Is Row-T.the-row) (SL.makes Row-T.the-type Row-L.the-plain 𝓤 H A) r _ is $ done !
 
-  module _ (𝓣 : Tables 𝓤 H) (fm : FmC 𝓤 H (W .laws) (𝓣 .C)) (known-fence-of : Triple 𝓤 (𝓣 .C #index·fence-of) (contractOf 𝓤 H A fence-of-F.ended (fence-of-F.clauses 𝓤 H A mem run))) (known-no-row : Triple 𝓤 (𝓣 .C #index·no-row) (contractOf 𝓤 H A no-row-F.ended (no-row-F.clauses 𝓤 H A mem run))) (known-fence-at : Triple 𝓤 (𝓣 .C #index·fence-at) (contractOf 𝓤 H A fence-at-F.ended (fence-at-F.clauses 𝓤 H A mem run))) (known-row-step : Triple 𝓤 (𝓣 .C #index·row-step) (contractOf 𝓤 H A row-step-F.ended (row-step-F.clauses 𝓤 H A mem run))) where
+  module _ (𝓣 : Tables 𝓤 H) (fm : FmC 𝓤 H (W .laws) (𝓣 .C)) (known-fence-of : Triple 𝓤 (𝓣 .C #steps·fence-of) (contractOf 𝓤 H A fence-of-F.ended (fence-of-F.clauses 𝓤 H A mem run))) (known-no-row : Triple 𝓤 (𝓣 .C #steps·no-row) (contractOf 𝓤 H A no-row-F.ended (no-row-F.clauses 𝓤 H A mem run))) (known-fence-at : Triple 𝓤 (𝓣 .C #index·fence-at) (contractOf 𝓤 H A fence-at-F.ended (fence-at-F.clauses 𝓤 H A mem run))) (known-row-step : Triple 𝓤 (𝓣 .C #steps·row-step) (contractOf 𝓤 H A row-step-F.ended (row-step-F.clauses 𝓤 H A mem run))) where
     walk : Room u32 (length words) → Room Fence-T.the-row (length fences) → Is Header-T.the-row header (SL.vals Header-T.the-type Header-L.the-laws header) → Is Plan-T.the-row plan (SL.vals Plan-T.the-type Plan-L.the-laws plan) → row′ < 2 ^ 32 → Planned header plan (length words) (length fences) → ent 𝓤 (onEntry 𝓤 H A read-row-F.signature (κ₀, (κ₁, tt)) (q₀, (q₁, tt)) args-of vals-of) (WpFn 𝓤 H (𝓣 .C) (𝓣 .Λ) code.function (sliceVal (b₀, o₀) (length words) ∷ sliceVal (b₁, o₁) (length fences) ∷ SL.val Header-T.the-type Header-L.the-laws header ∷ SL.val Plan-T.the-type Plan-L.the-laws plan ∷ vint w32 row′ ∷ []) Post)
     walk room-words room-fences is-header is-plan fit-row′ req =
         qed W ((‵ (flft κ₀ q₀) ⊛ (‵ (flft κ₁ q₁) ⊛ ‵ ftrue)) ∷ ‵ (owns (ShrSlice (named 0) κ₀ u32 ∷ ShrSlice (named 1) κ₁ Fence-T.the-row ∷ Header-T.the-row ∷ Plan-T.the-row ∷ u32 ∷ []) args-of vals-of) ∷ []) ∵ enter ! (𝓣 .C) (𝓣 .Λ) code.function (sliceVal (b₀, o₀) (length words) ∷ sliceVal (b₁, o₁) (length fences) ∷ SL.val Header-T.the-type Header-L.the-laws header ∷ SL.val Plan-T.the-type Plan-L.the-laws plan ∷ vint w32 row′ ∷ []) _ $
@@ -134,13 +134,13 @@ module _ {M : Type 1} (𝓤 : URA M) (H : Heap 𝓤) (A : Atoms 𝓤) (W : Given
         pass1 ! (init ! 24 refl (tt, (tt, (record { fits = room-words .0 }, tt)))) $ pass1 ! (init ! 22 refl (tt, (tt, (record { fits = room-fences .0 }, tt)))) $ pass1 ! (init ! 20 refl (SL.lawful Header-T.the-type Header-L.the-laws 𝓤 H A W .typed header (SL.vals Header-T.the-type Header-L.the-laws header) is-header .0)) $ pass1 ! (init ! 18 refl (SL.lawful Plan-T.the-type Plan-L.the-laws 𝓤 H A W .typed plan (SL.vals Plan-T.the-type Plan-L.the-laws plan) is-plan .0)) $ pass1 ! (init ! 16 refl (tt, record { fits = fit-row′ })) $ pass0 ! $
         move ! (29 ∷ []) $ fsplit ! $ move ! (1 ∷ []) $ fsplit ! $ move ! (1 ∷ []) $ fsplit ! $ drop ! $ fsplit ! $ drop ! $ fsplit ! $ drop ! $ drop ! $ move ! (30 ∷ []) $ split ! $ move ! (1 ∷ []) $ split ! $ move ! (1 ∷ []) $ drop ! $ move ! (1 ∷ 3 ∷ 0 ∷ 2 ∷ []) $
         -- [words's token; words; fences's token; fences; _13; …; _0; …]
-        -- fence_of
+        -- steps::fence::fence_of
         calls-plain ! fm usize (plain (λ _. Plan-T.the-row) ∷ plain (λ _. u32) ∷ []) (yes, (yes, tt)) (fence-of-F.clauses 𝓤 H A mem run) known-fence-of
         (λ κs. (plan, (row′, tt))) (λ κs. (SL.val Plan-T.the-type Plan-L.the-laws plan ∷ [], (vint w32 row′ ∷ [], tt))) (λ κs. owns-make 𝓤 H A (Plan-T.the-row ∷ u32 ∷ []) (Ises (Plan-T.the-row ∷ u32 ∷ [])) (SL.makes Plan-T.the-type Plan-L.the-plain 𝓤 H A, (uint-makes 𝓤 H A W w32, tt)) (plan, (row′, tt)) (SL.val Plan-T.the-type Plan-L.the-laws plan ∷ [], (vint w32 row′ ∷ [], tt)) (is-plan, ((refl, fit-row′), tt))) (λ κs. tt) (λ κs. factI 𝓤 (0 < plan .shape .spacing) (emp 𝓤) (call-1 words fences header plan req))
         (λ r1. r1 ≡ row′ / 31 / plan .shape .spacing) (λ κs r1 ws. id⊢ 𝓤 _) (λ κs. (and-then ! (load ! (from ! (stop !)) (look ! 23 refl)) (and-then ! (load ! (from ! (stop !)) (look ! 21 refl)) (no-more !))))
         (λ u1 r1 e1 is1.
         land ! (from ! (stop !)) (init ! 18 refl (uint-lawful 𝓤 H A W w64 .typed r1 _ is1 .0)) $ rewrite ! 18 (λ (w : Val). ‵ (fat fullShare (tyInt w64) l₆ 0 w)) (ap only (uint-tells w64 r1 _ is1)) refl $
-        -- no_row
+        -- steps::row::no_row
         calls-plain ! fm Row-T.the-row [] tt (no-row-F.clauses 𝓤 H A mem run) known-no-row
         (λ κs. tt) (λ κs. tt) (λ κs. owns-make 𝓤 H A [] (Ises []) tt tt tt tt) (λ κs. tt) (λ κs. id⊢ 𝓤 _)
         (λ r2. r2 ≡ noRow) (λ κs r2 ws. id⊢ 𝓤 _) (λ κs. (no-more !))
@@ -164,7 +164,7 @@ module _ {M : Type 1} (𝓤 : URA M) (H : Heap 𝓤) (A : Atoms 𝓤) (W : Given
         (λ u3 r3 e3 is3.
         land ! (from ! (stop !)) (init ! 10 refl (SL.lawful Fence-T.the-type Fence-L.the-laws 𝓤 H A W .typed r3 _ is3 .0)) $ rewrite ! 10 (λ (w : Val). ‵ (fat fullShare (Fence-L.mir) l₁₀ 0 w)) (ap only (SL.tells Fence-T.the-type Fence-L.the-laws r3 _ is3)) refl $
         move ! (2 ∷ 3 ∷ []) $
-        -- row_step
+        -- steps::row::row_step
         calls-shr ! fm u32 Row-T.the-row (plain (λ _. Plan-T.the-row) ∷ plain (λ _. Fence-T.the-row) ∷ plain (λ _. u32) ∷ plain (λ _. u32) ∷ plain (λ _. Row-T.the-row) ∷ []) (yes, (yes, (yes, (yes, (yes, tt))))) (row-step-F.clauses 𝓤 H A mem run) known-row-step b₀ o₀ γ₀ words (length words) refl
         (λ κs. (plan, (r3, (row′, ((x .0), ((x .1 .0), tt)))))) (λ κs. (SL.val Plan-T.the-type Plan-L.the-laws plan ∷ [], (SL.val Fence-T.the-type Fence-L.the-laws r3 ∷ [], (vint w32 row′ ∷ [], (vint w32 (x .0) ∷ [], (SL.val Row-T.the-type Row-L.the-laws (x .1 .0) ∷ [], tt)))))) (λ κs. owns-make 𝓤 H A (Plan-T.the-row ∷ Fence-T.the-row ∷ u32 ∷ u32 ∷ Row-T.the-row ∷ []) (Ises (Plan-T.the-row ∷ Fence-T.the-row ∷ u32 ∷ u32 ∷ Row-T.the-row ∷ [])) (SL.makes Plan-T.the-type Plan-L.the-plain 𝓤 H A, (SL.makes Fence-T.the-type Fence-L.the-plain 𝓤 H A, (uint-makes 𝓤 H A W w32, (uint-makes 𝓤 H A W w32, (SL.makes Row-T.the-type Row-L.the-plain 𝓤 H A, tt))))) (plan, (r3, (row′, ((x .0), ((x .1 .0), tt))))) (SL.val Plan-T.the-type Plan-L.the-laws plan ∷ [], (SL.val Fence-T.the-type Fence-L.the-laws r3 ∷ [], (vint w32 row′ ∷ [], (vint w32 (x .0) ∷ [], (SL.val Row-T.the-type Row-L.the-laws (x .1 .0) ∷ [], tt))))) (is-plan, ((told Fence-T.the-type Fence-L.the-laws r3 _ is3), ((refl, fit-row′), ((refl, (below-word (x .1 .1 .0) (SL.owed Header-T.the-type Header-L.the-laws header _ is-header .1 .1 .0 .1))), ((x .1 .1 .1 .0), tt)))))) (λ κs δ₀. tt) (λ κs δ₀. factI 𝓤 (Suits plan (length words) (x .0) × ((x .1 .0) .holders < 64) × ((x .1 .0) .opened ≤ 48321)) (emp 𝓤) (call-4 words fences header plan row′ req (x .0) (x .1 .0) (x .1 .1 .1 .1) (ltb→lt (x .0) (header .values) less-h)))
         (λ r4. r4 ≡ rowStep row′ (x .0) (x .1 .0) (readGroup (plan .shape) (r3 .place) (r3 .first) (row′ / 31) (blockIn plan words (x .0)))) (λ κs δ₀ r4 ws. id⊢ 𝓤 _) (λ κs δ₀. (and-then ! (load ! (from ! (stop !)) (look ! 28 refl)) (and-then ! (load ! (from ! (stop !)) (look ! 22 refl)) (and-then ! (load ! (from ! (stop !)) (look ! 10 refl)) (and-then ! (load ! (from ! (stop !)) (look ! 20 refl)) (and-then ! (load ! (from ! (stop !)) (look ! 14 refl)) (and-then ! (load ! (from ! (stop !)) (look ! 16 refl)) (no-more !))))))))
@@ -181,12 +181,12 @@ module _ {M : Type 1} (𝓤 : URA M) (H : Heap 𝓤) (A : Atoms 𝓤) (W : Given
         by ! (exits (SL.val Row-T.the-type Row-L.the-laws (x .1 .0)) (x .1 .0) (exit-1 words fences header plan row′ req (x .0) (x .1 .0) (x .1 .1 .1 .1) (le-antisymm (x .1 .1 .0) (nltb→le (x .0) (header .values) done-h))) (x .1 .1 .1 .0)))) (0, (r2, (zero-le, ((told Row-T.the-type Row-L.the-laws r2 _ is2), e2))))))))))))))))))))
 
 module _ {M : Type 1} (𝓤 : URA M) (H : Heap 𝓤) (A : Atoms 𝓤) (W : Given 𝓤 H A) (mem : Memory → SProp 𝓤) (run : Routine → Fun 𝓤) where
-  read-row-walks : (𝓣 : Tables 𝓤 H) → Triple 𝓤 (𝓣 .C #index·fence-of) (contractOf 𝓤 H A fence-of-F.ended (fence-of-F.clauses 𝓤 H A mem run)) → Triple 𝓤 (𝓣 .C #index·no-row) (contractOf 𝓤 H A no-row-F.ended (no-row-F.clauses 𝓤 H A mem run)) → Triple 𝓤 (𝓣 .C #index·fence-at) (contractOf 𝓤 H A fence-at-F.ended (fence-at-F.clauses 𝓤 H A mem run)) → Triple 𝓤 (𝓣 .C #index·row-step) (contractOf 𝓤 H A row-step-F.ended (row-step-F.clauses 𝓤 H A mem run)) → Walks 𝓤 H A read-row-F.ended stayed (WpFn 𝓤 H (𝓣 .C) (𝓣 .Λ) code.function) (read-row-F.clauses 𝓤 H A mem run)
+  read-row-walks : (𝓣 : Tables 𝓤 H) → Triple 𝓤 (𝓣 .C #steps·fence-of) (contractOf 𝓤 H A fence-of-F.ended (fence-of-F.clauses 𝓤 H A mem run)) → Triple 𝓤 (𝓣 .C #steps·no-row) (contractOf 𝓤 H A no-row-F.ended (no-row-F.clauses 𝓤 H A mem run)) → Triple 𝓤 (𝓣 .C #index·fence-at) (contractOf 𝓤 H A fence-at-F.ended (fence-at-F.clauses 𝓤 H A mem run)) → Triple 𝓤 (𝓣 .C #steps·row-step) (contractOf 𝓤 H A row-step-F.ended (row-step-F.clauses 𝓤 H A mem run)) → Walks 𝓤 H A read-row-F.ended stayed (WpFn 𝓤 H (𝓣 .C) (𝓣 .Λ) code.function) (read-row-F.clauses 𝓤 H A mem run)
   read-row-walks 𝓣 known-fence-of known-no-row known-fence-at known-row-step =
       walked 𝓤 H A read-row-F.ended stayed (read-row-F.clauses 𝓤 H A mem run) (WpFn 𝓤 H (𝓣 .C) (𝓣 .Λ) code.function) (λ κs. (slice-vals, (slice-vals, (SL.vals Header-T.the-type Header-L.the-laws, (SL.vals Plan-T.the-type Plan-L.the-laws, (uint-vals w32, tt)))))) (λ κs. (shr-slice-tells (named 0) (κs .0) u32, (shr-slice-tells (named 1) (κs .1 .0) Fence-T.the-row, (SL.tells Header-T.the-type Header-L.the-laws, (SL.tells Plan-T.the-type Plan-L.the-laws, (uint-tells w32, tt))))))
       (λ κs qs bounds a g are. needs 𝓤 _ _ (walk 𝓤 H A W mem run (κs .0) (κs .1 .0) (qs .0) (qs .1 .0) (a .0 .ptr .0) (a .0 .ptr .1) (a .0 .name) (a .0 .now) (a .1 .0 .ptr .0) (a .1 .0 .ptr .1) (a .1 .0 .name) (a .1 .0 .now) (a .1 .1 .0) (a .1 .1 .1 .0) (a .1 .1 .1 .1 .0) 𝓣 (fmOf 𝓤 H (W .laws) 𝓣) known-fence-of known-no-row known-fence-at known-row-step (are .0 .0 .1) (are .1 .0 .0 .1) (are .1 .1 .0) (are .1 .1 .1 .0) (are .1 .1 .1 .1 .0 .1)))
 
-read-row-meets : {M : Type 1} (𝓤 : URA M) (H : Heap 𝓤) (A : Atoms 𝓤) (W : Given 𝓤 H A) (mem : Memory → SProp 𝓤) (run : Routine → Fun 𝓤) (𝓣 : Tables 𝓤 H) → Triple 𝓤 (𝓣 .C #index·fence-of) (contractOf 𝓤 H A fence-of-F.ended (fence-of-F.clauses 𝓤 H A mem run)) → Triple 𝓤 (𝓣 .C #index·no-row) (contractOf 𝓤 H A no-row-F.ended (no-row-F.clauses 𝓤 H A mem run)) → Triple 𝓤 (𝓣 .C #index·fence-at) (contractOf 𝓤 H A fence-at-F.ended (fence-at-F.clauses 𝓤 H A mem run)) → Triple 𝓤 (𝓣 .C #index·row-step) (contractOf 𝓤 H A row-step-F.ended (row-step-F.clauses 𝓤 H A mem run)) → Meets 𝓤 H A read-row-F.signature (WpFn 𝓤 H (𝓣 .C) (𝓣 .Λ) code.function) (read-row-F.spec 𝓤 H A mem run)
+read-row-meets : {M : Type 1} (𝓤 : URA M) (H : Heap 𝓤) (A : Atoms 𝓤) (W : Given 𝓤 H A) (mem : Memory → SProp 𝓤) (run : Routine → Fun 𝓤) (𝓣 : Tables 𝓤 H) → Triple 𝓤 (𝓣 .C #steps·fence-of) (contractOf 𝓤 H A fence-of-F.ended (fence-of-F.clauses 𝓤 H A mem run)) → Triple 𝓤 (𝓣 .C #steps·no-row) (contractOf 𝓤 H A no-row-F.ended (no-row-F.clauses 𝓤 H A mem run)) → Triple 𝓤 (𝓣 .C #index·fence-at) (contractOf 𝓤 H A fence-at-F.ended (fence-at-F.clauses 𝓤 H A mem run)) → Triple 𝓤 (𝓣 .C #steps·row-step) (contractOf 𝓤 H A row-step-F.ended (row-step-F.clauses 𝓤 H A mem run)) → Meets 𝓤 H A read-row-F.signature (WpFn 𝓤 H (𝓣 .C) (𝓣 .Λ) code.function) (read-row-F.spec 𝓤 H A mem run)
 read-row-meets 𝓤 H A W mem run 𝓣 known-fence-of known-no-row known-fence-at known-row-step =
     walk-meets 𝓤 H A read-row-F.ended stayed W (goes-dropped 𝓤 H A W 2 (shrSliceOf (0 ∷ []) tt (plain (λ _. u32))) yes (λ κs x f. refl), (goes-dropped 𝓤 H A W 2 (shrSliceOf (1 ∷ []) tt (plain (λ _. Fence-T.the-row))) yes (λ κs x f. refl), (goes-dropped 𝓤 H A W 2 (plain (λ _. Header-T.the-row)) yes (λ κs x f. refl), (goes-dropped 𝓤 H A W 2 (plain (λ _. Plan-T.the-row)) yes (λ κs x f. refl), (goes-dropped 𝓤 H A W 2 (plain (λ _. u32)) yes (λ κs x f. refl), tt)))))
     (read-row-F.clauses 𝓤 H A mem run) (WpFn 𝓤 H (𝓣 .C) (𝓣 .Λ) code.function) (WpFn-mono 𝓤 H (W .laws) 𝓣 code.function) (read-row-walks 𝓤 H A W mem run 𝓣 known-fence-of known-no-row known-fence-at known-row-step)
@@ -197,7 +197,7 @@ read-row-spec 𝓤 H 𝓜 𝓖 𝓡 =
     entered 𝓤 H (tripleOf 𝓤 H (𝓖 .A) read-row-F.signature (read-row-F.spec 𝓤 H (𝓖 .A) (𝓜 .mem) (𝓡 .run)))
     (tables 𝓤 H 𝓜 𝓡 code.env .C) (tables 𝓤 H 𝓜 𝓡 code.env .Λ) #index·read-row code.function (code.unfolded 𝓤 H 𝓜 𝓡)
     (read-row-meets 𝓤 H (𝓖 .A) (givenOf 𝓤 H 𝓜 𝓖) (𝓜 .mem) (𝓡 .run) (tablesOf 𝓤 H 𝓜 (tables 𝓤 H 𝓜 𝓡 code.env))
-    (cited 𝓤 H (tripleOf 𝓤 H (𝓖 .A) fence-of-F.signature (fence-of-F.spec 𝓤 H (𝓖 .A) (𝓜 .mem) (𝓡 .run))) 𝓜 𝓡 code.env #index·fence-of fence-of-def.routine code.calls-index·reading·fence-of (fence-of-thm.met 𝓤 H 𝓜 𝓖 𝓡))
-    (cited 𝓤 H (tripleOf 𝓤 H (𝓖 .A) no-row-F.signature (no-row-F.spec 𝓤 H (𝓖 .A) (𝓜 .mem) (𝓡 .run))) 𝓜 𝓡 code.env #index·no-row no-row-def.routine code.calls-index·row·no-row (no-row-thm.met 𝓤 H 𝓜 𝓖 𝓡))
+    (cited 𝓤 H (tripleOf 𝓤 H (𝓖 .A) fence-of-F.signature (fence-of-F.spec 𝓤 H (𝓖 .A) (𝓜 .mem) (𝓡 .run))) 𝓜 𝓡 code.env #steps·fence-of fence-of-def.routine code.calls-steps·fence·fence-of (fence-of-thm.met 𝓤 H 𝓜 𝓖 𝓡))
+    (cited 𝓤 H (tripleOf 𝓤 H (𝓖 .A) no-row-F.signature (no-row-F.spec 𝓤 H (𝓖 .A) (𝓜 .mem) (𝓡 .run))) 𝓜 𝓡 code.env #steps·no-row no-row-def.routine code.calls-steps·row·no-row (no-row-thm.met 𝓤 H 𝓜 𝓖 𝓡))
     (cited 𝓤 H (tripleOf 𝓤 H (𝓖 .A) fence-at-F.signature (fence-at-F.spec 𝓤 H (𝓖 .A) (𝓜 .mem) (𝓡 .run))) 𝓜 𝓡 code.env #index·fence-at fence-at-def.routine code.calls-index·fences·fence-at (fence-at-thm.met 𝓤 H 𝓜 𝓖 𝓡))
-    (cited 𝓤 H (tripleOf 𝓤 H (𝓖 .A) row-step-F.signature (row-step-F.spec 𝓤 H (𝓖 .A) (𝓜 .mem) (𝓡 .run))) 𝓜 𝓡 code.env #index·row-step row-step-def.routine code.calls-index·row·row-step (row-step-thm.met 𝓤 H 𝓜 𝓖 𝓡)))
+    (cited 𝓤 H (tripleOf 𝓤 H (𝓖 .A) row-step-F.signature (row-step-F.spec 𝓤 H (𝓖 .A) (𝓜 .mem) (𝓡 .run))) 𝓜 𝓡 code.env #steps·row-step row-step-def.routine code.calls-steps·row·row-step (row-step-thm.met 𝓤 H 𝓜 𝓖 𝓡)))

@@ -42,7 +42,7 @@ use denote.Triple.Table.{entered, cited}
 use denote.Triple.Walked.{says, needs, Stays, stay-slice, stay-dropped, walkOf, Walks, ends-at, walked, goes-slice, goes-dropped, walk-meets}
 use lib.Seq.{sets}
 use Rattle.answers.specs.Numbers.{paper}
-use Rattle.index.specs.Memory.{memoryOf}
+use Rattle.steps.specs.Memory.{memoryOf}
 use Rattle.print.specs.Printed.{answerLine, valueLines}
 use Rattle.print.proofs.printing.Turns.{turn-fits, turn-adds}
 use Rattle.answers.specs.Outcome.{Gives}
@@ -50,11 +50,11 @@ use Rattle.index.specs.Calls.{queryOutcome}
 use Rattle.answers.specs.declared.Answer.{Answer}
 use Rattle.answers.proofs.Answer as Answer-T
 use Rattle.answers.proofs.Answer.Laws as Answer-L
-use Rattle.index.specs.declared.header.Fence.{Fence}
-use Rattle.index.proofs.header.Fence as Fence-T
-use Rattle.index.specs.declared.header.Header.{Header}
-use Rattle.index.proofs.header.Header as Header-T
-use Rattle.index.proofs.header.Header.Laws as Header-L
+use Rattle.steps.specs.declared.header.Fence.{Fence}
+use Rattle.steps.proofs.header.Fence as Fence-T
+use Rattle.steps.specs.declared.header.Header.{Header}
+use Rattle.steps.proofs.header.Header as Header-T
+use Rattle.steps.proofs.header.Header.Laws as Header-L
 use Rattle.walks.proofs.Lend.{ref}
 use Rattle.walks.proofs.Flow.{Nearer, Nearer-wf, told-enum, while-loops, assigns-again, frees-all, below-word, next-le, next-nearer}
 use Rattle.walks.proofs.Calls.{contractOf, calls-shr-shr-mut, calls-view-mut}

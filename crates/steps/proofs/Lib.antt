@@ -1,0 +1,4 @@
+pub mod Altering
+pub mod FenceRecords
+pub mod Headers
+pub mod RowLaws
