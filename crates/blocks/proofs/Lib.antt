@@ -1,16 +1,9 @@
 pub mod Blocks
-pub mod Columns
-pub mod EachRow
-pub mod EmptyUpdates
 pub mod FenceLaws
-pub mod Flipping
-pub mod Merging
 pub mod Parts
 pub mod Reaching
 pub mod Readings
 pub mod Rooms
 pub mod Sizes
-pub mod SoundLists
-pub mod Turning
 pub mod WholeLists
 pub mod ZeroList

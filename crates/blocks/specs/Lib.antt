@@ -2,9 +2,4 @@ pub mod Shape
 pub mod Block
 pub mod Read
 pub mod Whole
-pub mod Audit
-pub mod Query
-pub mod Change
-pub mod Column
 pub mod Fences
-pub mod Dump

@@ -10,8 +10,8 @@ use Rattle.blocks.specs.Shape.{fenceCount}
 use Rattle.blocks.specs.Block.{part, write, valueWords, updateWords, valueList, updateList, current, padded, withUpdate, blockOf, zeroList}
 use Rattle.blocks.specs.Read.{readValue, readUpdate, readGroup}
 use Rattle.blocks.specs.Whole.{updateOnes, wholeLists}
-use Rattle.blocks.specs.Change.{merged, turnedList, turned, mergeDue, flipped}
-use Rattle.blocks.specs.Column.{listFor, loaded}
+use Rattle.values.specs.Change.{merged, turnedList, turned, mergeDue, flipped}
+use Rattle.values.specs.Column.{listFor, loaded}
 use Rattle.blocks.specs.Fences.{fenceAt}
 use Rattle.steps.specs.Memory.{limits, withinLimits, lent, blockAt, rowsIn}
 use Rattle.steps.specs.Reading.{fenceFor, readIn, rowOf, valueOf}

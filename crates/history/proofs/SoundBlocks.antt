@@ -12,15 +12,15 @@ use Rattle.lists.specs.Combine.{exclusive, answer}
 use Rattle.lists.proofs.TurningOver.{rowAt-turnedOver-other}
 use Rattle.blocks.specs.Shape.{Limits, updateRoom, blockSize}
 use Rattle.blocks.specs.Block.{updateList, current, padded, zeroList}
-use Rattle.blocks.specs.Change.{merged, turned, mergeDue, flipped}
+use Rattle.values.specs.Change.{merged, turned, mergeDue, flipped}
 use Rattle.blocks.specs.Whole.{wholeLists}
 use Rattle.blocks.specs.declared.shape.Shape.{Shape}
-use Rattle.blocks.proofs.EmptyUpdates.{emptied, value-emptied, update-emptied, ones-emptied}
-use Rattle.blocks.proofs.Flipping.{kept-ready, merged-ready}
-use Rattle.blocks.proofs.Turning.{Spare, turnedList-fits, value-turned, update-turned, decode-turned, whole-turned}
+use Rattle.values.proofs.EmptyUpdates.{emptied, value-emptied, update-emptied, ones-emptied}
+use Rattle.values.proofs.Flipping.{kept-ready, merged-ready}
+use Rattle.values.proofs.Turning.{Spare, turnedList-fits, value-turned, update-turned, decode-turned, whole-turned}
 use Rattle.blocks.proofs.WholeLists.{whole-parts, parts-whole, rowAt-current, current-fits, decode-current, canonical-current}
 use Rattle.blocks.proofs.ZeroList.{length-zeroList, decode-zeroList, canonical-zeroList}
-use Rattle.blocks.proofs.column.Rows.{getD-padded}
+use Rattle.values.proofs.column.Rows.{getD-padded}
 use Rattle.index.specs.Soundness.{SoundLists}
 
 -- the lists are whole

@@ -8,8 +8,8 @@ use native.Mathlib.Omega.{arith}
 use lib.Dec.{eqb, ltb}
 use borrow.Author.Tests.{lt-ltb, le-ltb, le-leb, lt-leb, ltb-true, ltb-false, eqb-true, eqb-false}
 use Rattle.words.specs.Rows.{groupsFor}
-use Rattle.blocks.specs.Dump.{eachRow, everyRow, freeInReading, markedInReading, inSpan, freeInSpan, markedInSpan, spanHolds, spanMarked}
-use Rattle.blocks.proofs.EachRow.{each-keeps, each-then, each-agrees, each-every, every-then, every-agrees}
+use Rattle.values.specs.Dump.{eachRow, everyRow, freeInReading, markedInReading, inSpan, freeInSpan, markedInSpan, spanHolds, spanMarked}
+use Rattle.values.proofs.EachRow.{each-keeps, each-then, each-agrees, each-every, every-then, every-agrees}
 use Rattle.blocks.proofs.Sizes.{rounded-of}
 use Rattle.blocks.specs.Read.{readGroup}
 use Rattle.steps.specs.Memory.{Memory, shapeOf, blockAt}

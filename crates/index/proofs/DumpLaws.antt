@@ -10,8 +10,8 @@ use lib.Dec.{eqb, ltb}
 use lib.ListN.{length, getD, take, replicate, length-append, length-replicate, getD-replicate, List·getD-append}
 use lib.Seq.{ext-getD, getD-at, getD-take, length-take-le}
 use borrow.Author.Tests.{lt-ltb, ltb-true, eqb-true, eqb-false}
-use Rattle.blocks.specs.Dump.{eachRow, everyRow}
-use Rattle.blocks.proofs.EachRow.{length-each, getD-each, every-each, each-every}
+use Rattle.values.specs.Dump.{eachRow, everyRow}
+use Rattle.values.proofs.EachRow.{length-each, getD-each, every-each, each-every}
 use Rattle.steps.specs.Memory.{Memory, blockAt, every}
 use Rattle.steps.specs.Entry.{planOf}
 use Rattle.steps.specs.Alter.{blockIn}

@@ -6,7 +6,7 @@ use Prim.Native.Nat.{ℕ, _*_, _<_}
 use lib.ListN.{length}
 use Rattle.blocks.specs.Shape.{fenceCount}
 use Rattle.blocks.specs.Block.{write, valueList}
-use Rattle.blocks.specs.Change.{mergeDue}
+use Rattle.values.specs.Change.{mergeDue}
 use Rattle.steps.specs.Alter.{Suits, blockIn, isWhole, mergeWords, flipWords, moveWords}
 use Rattle.steps.specs.Alter.{renewedFences, flipFences, moveFences}
 use Rattle.steps.specs.Entry.{planOf}

@@ -15,8 +15,8 @@ use Rattle.lists.proofs.Apart.{apart-rows, rows-apart}
 use Rattle.lists.proofs.Combining.{length-combined, rowAt-combined-any}
 use Rattle.lists.proofs.Operations.{either-bits}
 use Rattle.blocks.specs.Shape.{Limits}
-use Rattle.blocks.specs.Audit.{soundLists}
-use Rattle.blocks.proofs.SoundLists.{sound-parts, sound-current}
+use Rattle.values.specs.Audit.{soundLists}
+use Rattle.values.proofs.SoundLists.{sound-parts, sound-current}
 use Rattle.blocks.proofs.WholeLists.{length-current}
 use Rattle.steps.specs.Memory.{shapeOf, blockAt, rowsIn, every, holdersOf}
 use Rattle.steps.specs.declared.header.Header.{Header}

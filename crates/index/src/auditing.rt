@@ -8,7 +8,7 @@ ghost use lib.ListN.{length, take, drop, replicate};
 ghost use Rattle.answers.specs.Numbers.{paper};
 ghost use Rattle.words.specs.Rows.{Groups};
 ghost use Rattle.lists.specs.Combine.{either, combined, apart};
-ghost use Rattle.blocks.specs.Audit.{soundLists};
+ghost use Rattle.values.specs.Audit.{soundLists};
 ghost use Rattle.blocks.specs.Block.{part, current};
 ghost use Rattle.blocks.specs.Shape.{fenceCount};
 ghost use Rattle.steps.specs.Alter.{Fenced, blockIn, listIn};

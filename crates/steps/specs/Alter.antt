@@ -11,7 +11,7 @@ use Rattle.words.specs.Words.{encode}
 use Rattle.blocks.specs.Shape.{Limits, blockSize, fenceCount}
 use Rattle.blocks.specs.Block.{part, write, valueList, current}
 use Rattle.blocks.specs.Whole.{wholeLists}
-use Rattle.blocks.specs.Change.{merged, mergeDue, flipped}
+use Rattle.values.specs.Change.{merged, mergeDue, flipped}
 use Rattle.steps.specs.Fences.{fencesFrom}
 use Rattle.steps.specs.declared.header.Fence.{Fence}
 use Rattle.steps.specs.declared.entry.Plan.{Plan}

@@ -8,7 +8,7 @@ use Rattle.answers.specs.Outcome.{_when_, Outcome, outcome}
 use Rattle.answers.specs.declared.Refusal.the-variants.{OutSmall}
 use Rattle.words.specs.Rows.{groupsFor}
 use Rattle.blocks.specs.Shape.{fenceCount}
-use Rattle.blocks.specs.Dump.{spanHolds, spanMarked}
+use Rattle.values.specs.Dump.{spanHolds, spanMarked}
 use Rattle.blocks.specs.declared.shape.Shape.{Shape}
 use Rattle.steps.specs.Memory.{Memory, shapeOf, blockAt}
 use Rattle.steps.specs.Fences.{noFence}

@@ -4,17 +4,17 @@ ghost use mathlib.Core.Path.{_≡_};
 ghost use Prim.Native.Nat.{_<_};
 ghost use lib.ListN.{length};
 ghost use Rattle.answers.specs.Outcome.{Gives};
-ghost use Rattle.blocks.specs.Change.{flipOf};
+ghost use Rattle.values.specs.Change.{flipOf};
 ghost use Rattle.steps.specs.Alter.{Suits, mergeAlter, mergeWords, flipAlter, flipWords, moveAlter, moveWords, queryValue};
 use crate::entry::Plan;
 use answers::Answer;
 use answers::Refusal;
-use blocks::change::Flipped;
-use blocks::change::flip;
-use blocks::change::merge;
-use blocks::current::list_current;
 use blocks::whole::Lists;
 use blocks::whole::check_lists;
+use values::change::Flipped;
+use values::change::flip;
+use values::change::merge;
+use values::current::list_current;
 
 // What came of a change: refused, or done with fences kept or to be made anew.
 pub enum Alter {

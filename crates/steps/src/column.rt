@@ -3,7 +3,7 @@ ghost use mathlib.Core.Path.{_≡_};
 ghost use Prim.Native.Nat.{ℕ, _<_, _≤_};
 ghost use lib.Dec.{leb};
 ghost use lib.ListN.{length};
-ghost use Rattle.blocks.specs.Column.{loaded};
+ghost use Rattle.values.specs.Column.{loaded};
 ghost use Rattle.steps.specs.Alter.{Suits, putBlock};
 ghost use Rattle.steps.specs.Entry.{validByte, validColumn, enteredLoad};
 use crate::entry::Entry;
@@ -12,8 +12,8 @@ use crate::entry::ask;
 use crate::entry::enter_index;
 use crate::header::header_for;
 use answers::Refusal;
-use blocks::column::load_block;
 use std::num::wrapping_add_u8;
+use values::column::load_block;
 
 // A byte and 1, where 255 becomes 0: it is at most d just where the byte is below d or is 255.
 pub fn following(byte: u8) -> u8

@@ -12,7 +12,7 @@ use crate::entry::Plan;
 use crate::header::Fence;
 use answers::Answer;
 use answers::Refusal;
-use blocks::dump::mark_span;
+use values::dump::mark_span;
 use words::rows::groups_for;
 use words::rows::smaller;
 

@@ -11,10 +11,10 @@ use lib.ListN.{length, take, drop, replicate}
 use Rattle.words.specs.Rows.{Groups}
 use Rattle.lists.specs.Combine.{either, combined, apart}
 use Rattle.blocks.specs.Shape.{fenceCount}
-use Rattle.blocks.specs.Audit.{soundLists}
+use Rattle.values.specs.Audit.{soundLists}
 use Rattle.blocks.specs.Block.{part, valueLength, current}
 use Rattle.blocks.proofs.Sizes.{few-groups}
-use Rattle.blocks.proofs.SoundLists.{sound-parts}
+use Rattle.values.proofs.SoundLists.{sound-parts}
 use Rattle.steps.specs.Alter.{Fenced, blockIn, listIn}
 use Rattle.steps.specs.Entry.{Planned}
 use Rattle.steps.specs.Fences.{rightFences}

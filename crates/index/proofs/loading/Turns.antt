@@ -6,8 +6,8 @@ use Prim.Native.Nat.{ℕ, _+_, _<_, _≤_}
 use native.Mathlib.Omega.{arith}
 use lib.ListN.{length}
 use Rattle.blocks.specs.Block.{valueLength}
-use Rattle.blocks.specs.Column.{loaded}
-use Rattle.blocks.proofs.Columns.{length-loaded, whole-loaded}
+use Rattle.values.specs.Column.{loaded}
+use Rattle.values.proofs.Columns.{length-loaded, whole-loaded}
 use Rattle.steps.specs.Entry.{Planned}
 use Rattle.steps.specs.Alter.{Suits, Fenced, blockIn, putBlock, isWhole, renewedFences}
 use Rattle.steps.specs.Memory.{Memory, memoryOf, blockAt}

@@ -6,7 +6,7 @@ use Prim.Native.Nat.{ℕ}
 use native.Mathlib.Omega.{arith}
 use Rattle.answers.specs.declared.Refusal.{Refusal}
 use Rattle.answers.specs.declared.Refusal.the-variants.{Damaged}
-use Rattle.blocks.specs.Change.{mergeDue}
+use Rattle.values.specs.Change.{mergeDue}
 use Rattle.steps.specs.Alter.{blockIn, isWhole, mergeAlter, flipAlter, moveAlter}
 use Rattle.steps.specs.declared.alter.Alter.the-variants.{Fails, Keeps, Renews}
 use Rattle.steps.specs.declared.alter.Move.the-variants.{Breaks, Moves}

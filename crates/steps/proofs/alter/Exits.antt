@@ -11,9 +11,9 @@ use Rattle.answers.specs.declared.Refusal.the-variants.{Damaged}
 use Rattle.blocks.specs.Shape.{Limits, blockSize}
 use Rattle.blocks.specs.Block.{part, write}
 use Rattle.blocks.specs.Whole.{updateOnes, wholeLists, wholeOf}
-use Rattle.blocks.specs.Query.{listOutcome}
-use Rattle.blocks.specs.Change.{merged, mergeDue, flipped, flipOf}
-use Rattle.blocks.specs.declared.change.Flipped.{Flipped}
+use Rattle.values.specs.Query.{listOutcome}
+use Rattle.values.specs.Change.{merged, mergeDue, flipped, flipOf}
+use Rattle.values.specs.declared.change.Flipped.{Flipped}
 use Rattle.blocks.specs.declared.whole.Lists.{Lists}
 use Rattle.blocks.specs.declared.whole.Lists.the-variants.{Intact, Faulty}
 use Rattle.steps.specs.Alter.{Suits, blockIn, isWhole, mergeAlter, mergeWords, flipAlter, flipWords, moveAlter, moveWords, queryValue}

@@ -4,8 +4,8 @@ use mathlib.Core.Bool.{Bool, true}
 use mathlib.Core.List.{List}
 use Prim.Native.Nat.{ℕ, _<_}
 use lib.ListN.{length}
-use Rattle.blocks.specs.Change.{mergeDue, flipOf}
-use Rattle.blocks.specs.declared.change.Flipped.{Flipped}
+use Rattle.values.specs.Change.{mergeDue, flipOf}
+use Rattle.values.specs.declared.change.Flipped.{Flipped}
 use Rattle.blocks.specs.declared.whole.Lists.{Lists}
 use Rattle.blocks.specs.declared.whole.Lists.the-variants.{Intact}
 use Rattle.steps.specs.Alter.{Suits, blockIn, isWhole, flipWords, moveAlter, moveWords}

@@ -40,7 +40,7 @@ use denote.Triple.Table.{entered, cited}
 use denote.Triple.Walked.{says, needs, Stays, stay-slice, stay-dropped, walkOf, Walks, ends-at, walked, goes-slice, goes-dropped, walk-meets}
 use Rattle.words.specs.Rows.{Groups}
 use Rattle.lists.specs.Combine.{either, combined, apart}
-use Rattle.blocks.specs.Audit.{soundLists}
+use Rattle.values.specs.Audit.{soundLists}
 use Rattle.blocks.specs.Block.{part, current, valueLength}
 use Rattle.blocks.specs.Shape.{fenceCount}
 use Rattle.steps.specs.Alter.{Fenced, blockIn, listIn, Suits}

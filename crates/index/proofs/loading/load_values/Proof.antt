@@ -43,7 +43,7 @@ use Rattle.steps.specs.Entry.{Planned}
 use Rattle.steps.specs.Memory.{memoryOf}
 use Rattle.index.specs.Calls.{loadedIn}
 use Rattle.index.proofs.loading.Turns.{loadedTo, load-asks, renew-asks, loads}
-use Rattle.blocks.specs.Column.{loaded}
+use Rattle.values.specs.Column.{loaded}
 use Rattle.steps.specs.Alter.{Suits, putBlock, Fenced, blockIn, renewedFences}
 use Rattle.blocks.specs.Block.{valueLength}
 use Rattle.steps.specs.declared.header.Fence.{Fence}

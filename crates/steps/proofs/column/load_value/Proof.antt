@@ -4,7 +4,7 @@ use Prim.Native.Nat.{ℕ, _*_}
 use native.Mathlib.Omega.{arith}
 use borrow.Author.Needs.{needs}
 use Rattle.blocks.specs.Block.{write}
-use Rattle.blocks.specs.Column.{loaded}
+use Rattle.values.specs.Column.{loaded}
 use Rattle.steps.proofs.Altering.{inside}
 use Rattle.steps.proofs.column.load_value.Statement.{statement}
 use Rattle.steps.proofs.column.load_value.Tie as tie

@@ -1,0 +1,5 @@
+pub mod Query
+pub mod Change
+pub mod Column
+pub mod Dump
+pub mod Audit
