@@ -1,7 +1,7 @@
 // The console's state: the header in use and what is lent to a call, and the commands that set them.
-use crate::orders::Order;
-use crate::say::say_text;
 use answers::Answer;
+use lines::orders::Order;
+use lines::say::say_text;
 use steps::header::Changed;
 use steps::header::Header;
 

@@ -1,17 +1,10 @@
 // A line console over every call of the index, for people who want to try it and for tests: `help` lists
 // its commands. Each line is answered by one line.
-mod columns;
-mod fields;
-mod input;
 mod lending;
 mod lent;
 mod memory;
-mod orders;
-mod put;
 mod records;
-mod say;
 mod serve;
-mod verbs;
 
 use lent::FENCES;
 use lent::WORDS;

@@ -1,21 +1,21 @@
 // The commands that need no fence records.
-use crate::columns::Counted;
-use crate::columns::digits_in;
-use crate::columns::words_in;
-use crate::input::Waiting;
-use crate::input::line_of;
 use crate::lent::Lent;
 use crate::lent::ROOM;
 use crate::lent::set_header;
 use crate::lent::set_lent;
 use crate::lent::set_room;
-use crate::orders::Order;
-use crate::say::say_help;
-use crate::say::say_list;
-use crate::say::say_text;
-use crate::say::say_unpacked;
-use crate::say::say_words;
-use crate::verbs::Verb;
+use lines::columns::Counted;
+use lines::columns::digits_in;
+use lines::columns::words_in;
+use lines::input::Waiting;
+use lines::input::line_of;
+use lines::orders::Order;
+use lines::say::say_help;
+use lines::say::say_list;
+use lines::say::say_text;
+use lines::say::say_unpacked;
+use lines::say::say_words;
+use lines::verbs::Verb;
 use words::packing::pack;
 use words::unpacking::unpack;
 

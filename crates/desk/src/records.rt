@@ -1,12 +1,12 @@
 // The commands that look at the console's fence records or set them.
-use crate::orders::Order;
-use crate::put::begin_answer;
-use crate::put::end_answer;
-use crate::put::put_record;
-use crate::say::say_text;
-use crate::verbs::Verb;
 use index::fences::fence_at;
 use index::fences::put_fence;
+use lines::orders::Order;
+use lines::put::begin_answer;
+use lines::put::end_answer;
+use lines::put::put_record;
+use lines::say::say_text;
+use lines::verbs::Verb;
 use steps::header::Fence;
 
 // What is to be done with the records.

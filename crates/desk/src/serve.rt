@@ -1,17 +1,17 @@
 // The console: a line is read, and answered before the next is waited for.
-use crate::input::Waiting;
-use crate::input::has_ended;
-use crate::input::look_on;
-use crate::input::nothing_waiting;
 use crate::lending::obey_change;
 use crate::lending::obey_load;
 use crate::lending::obey_question;
 use crate::lent::Lent;
 use crate::lent::all_lent;
 use crate::memory::obey_other;
-use crate::orders::Request;
-use crate::orders::next_request;
 use crate::records::obey_records;
+use lines::input::Waiting;
+use lines::input::has_ended;
+use lines::input::look_on;
+use lines::input::nothing_waiting;
+use lines::orders::Request;
+use lines::orders::next_request;
 use steps::header::Fence;
 
 // What the console keeps from one turn to the next.

@@ -45,9 +45,9 @@ use Rattle.steps.proofs.header.Header.Laws as Header-L
 use Rattle.desk.specs.declared.lent.Lent.{Lent}
 use Rattle.desk.proofs.lent.Lent as Lent-T
 use Rattle.desk.proofs.lent.Lent.Laws as Lent-L
-use Rattle.desk.specs.declared.orders.Order.{Order}
-use Rattle.desk.proofs.orders.Order as Order-T
-use Rattle.desk.proofs.orders.Order.Laws as Order-L
+use Rattle.lines.specs.declared.orders.Order.{Order}
+use Rattle.lines.proofs.orders.Order as Order-T
+use Rattle.lines.proofs.orders.Order.Laws as Order-L
 use Rattle.desk.proofs.lending.Question as Question-T
 use Rattle.desk.proofs.lending.Question.Laws as Question-L
 use Rattle.desk.specs.declared.lending.Question.the-variants.{Queries, Values, Dumps, Audits}

@@ -53,10 +53,10 @@ use Rattle.index.proofs.auditing.audit as audit-F
 use Rattle.index.proofs.auditing.audit.Symbol as audit-def
 use Rattle.index.proofs.auditing.audit.Symbol.{name as #index·audit}
 use Rattle.index.proofs.auditing.audit.Met as audit-thm
-use Rattle.desk.proofs.say.say_done as say-done-F
-use Rattle.desk.proofs.say.say_done.Symbol as say-done-def
-use Rattle.desk.proofs.say.say_done.Symbol.{name as #desk·say-done}
-use Rattle.desk.proofs.say.say_done.Met as say-done-thm
+use Rattle.lines.proofs.say.say_done as say-done-F
+use Rattle.lines.proofs.say.say_done.Symbol as say-done-def
+use Rattle.lines.proofs.say.say_done.Symbol.{name as #desk·say-done}
+use Rattle.lines.proofs.say.say_done.Met as say-done-thm
 use Rattle.desk.proofs.lending.ask_audit.Key.{name as #desk·ask-audit}
 use Rattle.desk.proofs.lending.ask_audit as ask-audit-F
 use Rattle.desk.proofs.lending.ask_audit.Statement as stated

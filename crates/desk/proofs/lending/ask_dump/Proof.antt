@@ -65,10 +65,10 @@ use Rattle.index.proofs.dumping.dump as dump-F
 use Rattle.index.proofs.dumping.dump.Symbol as dump-def
 use Rattle.index.proofs.dumping.dump.Symbol.{name as #index·dump}
 use Rattle.index.proofs.dumping.dump.Met as dump-thm
-use Rattle.desk.proofs.say.say_dump as say-dump-F
-use Rattle.desk.proofs.say.say_dump.Symbol as say-dump-def
-use Rattle.desk.proofs.say.say_dump.Symbol.{name as #desk·say-dump}
-use Rattle.desk.proofs.say.say_dump.Met as say-dump-thm
+use Rattle.lines.proofs.say.say_dump as say-dump-F
+use Rattle.lines.proofs.say.say_dump.Symbol as say-dump-def
+use Rattle.lines.proofs.say.say_dump.Symbol.{name as #desk·say-dump}
+use Rattle.lines.proofs.say.say_dump.Met as say-dump-thm
 use Rattle.desk.proofs.lending.ask_dump.Key.{name as #desk·ask-dump}
 use Rattle.desk.proofs.lending.ask_dump as ask-dump-F
 use Rattle.desk.proofs.lending.ask_dump.Statement as stated

@@ -65,10 +65,10 @@ use Rattle.index.proofs.answering.query as query-F
 use Rattle.index.proofs.answering.query.Symbol as query-def
 use Rattle.index.proofs.answering.query.Symbol.{name as #index·query}
 use Rattle.index.proofs.answering.query.Met as query-thm
-use Rattle.desk.proofs.say.say_list as say-list-F
-use Rattle.desk.proofs.say.say_list.Symbol as say-list-def
-use Rattle.desk.proofs.say.say_list.Symbol.{name as #desk·say-list}
-use Rattle.desk.proofs.say.say_list.Met as say-list-thm
+use Rattle.lines.proofs.say.say_list as say-list-F
+use Rattle.lines.proofs.say.say_list.Symbol as say-list-def
+use Rattle.lines.proofs.say.say_list.Symbol.{name as #desk·say-list}
+use Rattle.lines.proofs.say.say_list.Met as say-list-thm
 use Rattle.desk.proofs.lending.ask_query.Key.{name as #desk·ask-query}
 use Rattle.desk.proofs.lending.ask_query as ask-query-F
 use Rattle.desk.proofs.lending.ask_query.Statement as stated

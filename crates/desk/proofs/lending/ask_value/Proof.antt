@@ -52,10 +52,10 @@ use Rattle.index.proofs.answering.value as value-F
 use Rattle.index.proofs.answering.value.Symbol as value-def
 use Rattle.index.proofs.answering.value.Symbol.{name as #index·value}
 use Rattle.index.proofs.answering.value.Met as value-thm
-use Rattle.desk.proofs.say.say_value as say-value-F
-use Rattle.desk.proofs.say.say_value.Symbol as say-value-def
-use Rattle.desk.proofs.say.say_value.Symbol.{name as #desk·say-value}
-use Rattle.desk.proofs.say.say_value.Met as say-value-thm
+use Rattle.lines.proofs.say.say_value as say-value-F
+use Rattle.lines.proofs.say.say_value.Symbol as say-value-def
+use Rattle.lines.proofs.say.say_value.Symbol.{name as #desk·say-value}
+use Rattle.lines.proofs.say.say_value.Met as say-value-thm
 use Rattle.desk.proofs.lending.ask_value.Key.{name as #desk·ask-value}
 use Rattle.desk.proofs.lending.ask_value as ask-value-F
 use Rattle.desk.proofs.lending.ask_value.Statement as stated

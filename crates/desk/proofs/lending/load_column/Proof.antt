@@ -44,9 +44,9 @@ use Rattle.steps.proofs.header.Changed as Changed-T
 use Rattle.steps.proofs.header.Changed.Laws as Changed-L
 use Rattle.steps.specs.declared.header.Fence.{Fence}
 use Rattle.steps.proofs.header.Fence as Fence-T
-use Rattle.desk.specs.declared.orders.Order.{Order}
-use Rattle.desk.proofs.orders.Order as Order-T
-use Rattle.desk.proofs.orders.Order.Laws as Order-L
+use Rattle.lines.specs.declared.orders.Order.{Order}
+use Rattle.lines.proofs.orders.Order as Order-T
+use Rattle.lines.proofs.orders.Order.Laws as Order-L
 use Rattle.walks.proofs.Lend.{ref}
 use Rattle.walks.proofs.Flow.{told, frees-all, empties}
 use Rattle.walks.proofs.Calls.{contractOf, calls-mut-mut-view}

@@ -52,9 +52,9 @@ use Rattle.steps.proofs.header.Fence as Fence-T
 use Rattle.steps.specs.declared.header.Header.{Header}
 use Rattle.steps.proofs.header.Header as Header-T
 use Rattle.steps.proofs.header.Header.Laws as Header-L
-use Rattle.desk.specs.declared.orders.Order.{Order}
-use Rattle.desk.proofs.orders.Order as Order-T
-use Rattle.desk.proofs.orders.Order.Laws as Order-L
+use Rattle.lines.specs.declared.orders.Order.{Order}
+use Rattle.lines.proofs.orders.Order as Order-T
+use Rattle.lines.proofs.orders.Order.Laws as Order-L
 use Rattle.walks.proofs.Lend.{ref}
 use Rattle.walks.proofs.Flow.{told, matches, frees-all, empties}
 use Rattle.walks.proofs.Calls.{contractOf, calls-mut-mut-last, calls-plain}

@@ -40,28 +40,28 @@ use denote.Triple.Spec.{Meets, tripleOf}
 use denote.Triple.Statement.{Triple}
 use denote.Triple.Table.{entered, cited}
 use denote.Triple.Walked.{Stays, stay-slice, stay-dropped, walkOf, Walks, ends-at, walked, goes-slice, goes-dropped, walk-meets}
-use Rattle.desk.proofs.columns.Counted as Counted-T
-use Rattle.desk.proofs.columns.Counted.Laws as Counted-L
-use Rattle.desk.specs.declared.columns.Counted.the-variants.{Count, Wrong}
+use Rattle.lines.proofs.columns.Counted as Counted-T
+use Rattle.lines.proofs.columns.Counted.Laws as Counted-L
+use Rattle.lines.specs.declared.columns.Counted.the-variants.{Count, Wrong}
 use Rattle.steps.specs.declared.header.Fence.{Fence}
 use Rattle.steps.proofs.header.Fence as Fence-T
 use Rattle.desk.specs.declared.lent.Lent.{Lent}
 use Rattle.desk.proofs.lent.Lent as Lent-T
 use Rattle.desk.proofs.lent.Lent.Laws as Lent-L
-use Rattle.desk.specs.declared.orders.Order.{Order}
-use Rattle.desk.proofs.orders.Order as Order-T
-use Rattle.desk.proofs.orders.Order.Laws as Order-L
-use Rattle.desk.specs.declared.input.Waiting.{Waiting}
-use Rattle.desk.proofs.input.Waiting as Waiting-T
-use Rattle.desk.proofs.input.Waiting.Laws as Waiting-L
+use Rattle.lines.specs.declared.orders.Order.{Order}
+use Rattle.lines.proofs.orders.Order as Order-T
+use Rattle.lines.proofs.orders.Order.Laws as Order-L
+use Rattle.lines.specs.declared.input.Waiting.{Waiting}
+use Rattle.lines.proofs.input.Waiting as Waiting-T
+use Rattle.lines.proofs.input.Waiting.Laws as Waiting-L
 use Rattle.walks.proofs.Lend.{ref}
 use Rattle.walks.proofs.Flow.{told, matches, frees-all, empties, big-lit}
 use Rattle.walks.proofs.Local.{repeats, lend-array, back-array}
 use Rattle.walks.proofs.Calls.{contractOf, calls-mut-mut-mut-last, calls-plain, calls-shr-mut}
-use Rattle.desk.proofs.columns.read_column as read-column-F
-use Rattle.desk.proofs.columns.read_column.Symbol as read-column-def
-use Rattle.desk.proofs.columns.read_column.Symbol.{name as #desk·read-column}
-use Rattle.desk.proofs.columns.read_column.Met as read-column-thm
+use Rattle.lines.proofs.columns.read_column as read-column-F
+use Rattle.lines.proofs.columns.read_column.Symbol as read-column-def
+use Rattle.lines.proofs.columns.read_column.Symbol.{name as #desk·read-column}
+use Rattle.lines.proofs.columns.read_column.Met as read-column-thm
 use Rattle.desk.proofs.lending.load_lent as load-lent-F
 use Rattle.desk.proofs.lending.load_lent.Symbol as load-lent-def
 use Rattle.desk.proofs.lending.load_lent.Symbol.{name as #desk·load-lent}

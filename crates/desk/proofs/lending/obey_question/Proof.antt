@@ -42,9 +42,9 @@ use Rattle.steps.proofs.header.Fence as Fence-T
 use Rattle.desk.specs.declared.lent.Lent.{Lent}
 use Rattle.desk.proofs.lent.Lent as Lent-T
 use Rattle.desk.proofs.lent.Lent.Laws as Lent-L
-use Rattle.desk.specs.declared.orders.Order.{Order}
-use Rattle.desk.proofs.orders.Order as Order-T
-use Rattle.desk.proofs.orders.Order.Laws as Order-L
+use Rattle.lines.specs.declared.orders.Order.{Order}
+use Rattle.lines.proofs.orders.Order as Order-T
+use Rattle.lines.proofs.orders.Order.Laws as Order-L
 use Rattle.walks.proofs.Lend.{ref}
 use Rattle.walks.proofs.Flow.{frees-all, empties}
 use Rattle.walks.proofs.Front.{refronted, front-length}

@@ -40,9 +40,9 @@ use denote.Triple.Table.{entered, cited}
 use denote.Triple.Walked.{Stays, stay-slice, stay-dropped, walkOf, Walks, ends-at, walked, goes-slice, goes-dropped, walk-meets}
 use Rattle.steps.specs.declared.header.Fence.{Fence}
 use Rattle.steps.proofs.header.Fence as Fence-T
-use Rattle.desk.specs.declared.orders.Order.{Order}
-use Rattle.desk.proofs.orders.Order as Order-T
-use Rattle.desk.proofs.orders.Order.Laws as Order-L
+use Rattle.lines.specs.declared.orders.Order.{Order}
+use Rattle.lines.proofs.orders.Order as Order-T
+use Rattle.lines.proofs.orders.Order.Laws as Order-L
 use Rattle.desk.proofs.records.Task as Task-T
 use Rattle.desk.proofs.records.Task.Laws as Task-L
 use Rattle.desk.specs.declared.records.Task.the-variants.{Sets, Shows, Outside}

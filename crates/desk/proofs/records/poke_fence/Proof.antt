@@ -39,9 +39,9 @@ use denote.Triple.Walked.{says, Stays, stay-slice, stay-dropped, walkOf, Walks, 
 use Rattle.steps.specs.Fences.{fence}
 use Rattle.steps.specs.declared.header.Fence.{Fence}
 use Rattle.steps.proofs.header.Fence as Fence-T
-use Rattle.desk.specs.declared.orders.Order.{Order}
-use Rattle.desk.proofs.orders.Order as Order-T
-use Rattle.desk.proofs.orders.Order.Laws as Order-L
+use Rattle.lines.specs.declared.orders.Order.{Order}
+use Rattle.lines.proofs.orders.Order as Order-T
+use Rattle.lines.proofs.orders.Order.Laws as Order-L
 use Rattle.walks.proofs.Lend.{ref}
 use Rattle.walks.proofs.Flow.{tests, frees-all, empties, widen-32-64}
 use Rattle.walks.proofs.Calls.{contractOf, calls-mut, calls-plain-last}

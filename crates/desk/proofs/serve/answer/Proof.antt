@@ -43,21 +43,21 @@ use Rattle.steps.proofs.header.Fence as Fence-T
 use Rattle.desk.specs.declared.lent.Lent.{Lent}
 use Rattle.desk.proofs.lent.Lent as Lent-T
 use Rattle.desk.proofs.lent.Lent.Laws as Lent-L
-use Rattle.desk.proofs.orders.Order as Order-T
-use Rattle.desk.proofs.orders.Order.Laws as Order-L
-use Rattle.desk.proofs.orders.Request as Request-T
-use Rattle.desk.proofs.orders.Request.Laws as Request-L
-use Rattle.desk.specs.declared.orders.Request.the-variants.{Loads, Changes, Asks, Records, Other, Silent}
-use Rattle.desk.specs.declared.input.Waiting.{Waiting}
-use Rattle.desk.proofs.input.Waiting as Waiting-T
-use Rattle.desk.proofs.input.Waiting.Laws as Waiting-L
+use Rattle.lines.proofs.orders.Order as Order-T
+use Rattle.lines.proofs.orders.Order.Laws as Order-L
+use Rattle.lines.proofs.orders.Request as Request-T
+use Rattle.lines.proofs.orders.Request.Laws as Request-L
+use Rattle.lines.specs.declared.orders.Request.the-variants.{Loads, Changes, Asks, Records, Other, Silent}
+use Rattle.lines.specs.declared.input.Waiting.{Waiting}
+use Rattle.lines.proofs.input.Waiting as Waiting-T
+use Rattle.lines.proofs.input.Waiting.Laws as Waiting-L
 use Rattle.walks.proofs.Lend.{ref}
 use Rattle.walks.proofs.Flow.{told, matches, frees-all, empties}
 use Rattle.walks.proofs.Calls.{contractOf, calls-mut, calls-mut-mut, calls-mut-mut-last, calls-mut-mut-shr-last, calls-mut-shr-last, calls-shr}
-use Rattle.desk.proofs.orders.next_request as next-request-F
-use Rattle.desk.proofs.orders.next_request.Symbol as next-request-def
-use Rattle.desk.proofs.orders.next_request.Symbol.{name as #desk·next-request}
-use Rattle.desk.proofs.orders.next_request.Met as next-request-thm
+use Rattle.lines.proofs.orders.next_request as next-request-F
+use Rattle.lines.proofs.orders.next_request.Symbol as next-request-def
+use Rattle.lines.proofs.orders.next_request.Symbol.{name as #desk·next-request}
+use Rattle.lines.proofs.orders.next_request.Met as next-request-thm
 use Rattle.desk.proofs.lending.obey_load as obey-load-F
 use Rattle.desk.proofs.lending.obey_load.Symbol as obey-load-def
 use Rattle.desk.proofs.lending.obey_load.Symbol.{name as #desk·obey-load}

@@ -42,15 +42,15 @@ use Rattle.steps.specs.declared.header.Fence.{Fence}
 use Rattle.steps.proofs.header.Fence as Fence-T
 use Rattle.desk.proofs.lent.Lent as Lent-T
 use Rattle.desk.proofs.lent.Lent.Laws as Lent-L
-use Rattle.desk.proofs.input.Waiting as Waiting-T
-use Rattle.desk.proofs.input.Waiting.Laws as Waiting-L
+use Rattle.lines.proofs.input.Waiting as Waiting-T
+use Rattle.lines.proofs.input.Waiting.Laws as Waiting-L
 use Rattle.walks.proofs.Lend.{ref}
 use Rattle.walks.proofs.Flow.{told, frees-all, empties}
 use Rattle.walks.proofs.Calls.{contractOf, calls-mut, calls-mut-mut-view, calls-plain}
-use Rattle.desk.proofs.input.look_on as look-on-F
-use Rattle.desk.proofs.input.look_on.Symbol as look-on-def
-use Rattle.desk.proofs.input.look_on.Symbol.{name as #desk·look-on}
-use Rattle.desk.proofs.input.look_on.Met as look-on-thm
+use Rattle.lines.proofs.input.look_on as look-on-F
+use Rattle.lines.proofs.input.look_on.Symbol as look-on-def
+use Rattle.lines.proofs.input.look_on.Symbol.{name as #desk·look-on}
+use Rattle.lines.proofs.input.look_on.Met as look-on-thm
 use Rattle.desk.proofs.serve.answer as answer-F
 use Rattle.desk.proofs.serve.answer.Symbol as answer-def
 use Rattle.desk.proofs.serve.answer.Symbol.{name as #desk·answer}
