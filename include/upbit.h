@@ -15,7 +15,7 @@
  * header, the words and the fences, and all three are the caller's. They may be copied, moved, stored
  * and lent again. A call may be made from any thread.
  *
- * Link with libabi.a (`rt staticlib abi`); it needs no other library.
+ * Link with libabi.a (`rt staticlib abi`, for x86-64); of other libraries it needs C's memcpy and memset alone.
  */
 #ifndef UPBIT_H
 #define UPBIT_H

@@ -55,7 +55,7 @@ use Rattle.index.proofs.auditing.audit.Symbol.{name as #index·audit}
 use Rattle.index.proofs.auditing.audit.Met as audit-thm
 use Rattle.lines.proofs.say.say_done as say-done-F
 use Rattle.lines.proofs.say.say_done.Symbol as say-done-def
-use Rattle.lines.proofs.say.say_done.Symbol.{name as #desk·say-done}
+use Rattle.lines.proofs.say.say_done.Symbol.{name as #lines·say-done}
 use Rattle.lines.proofs.say.say_done.Met as say-done-thm
 use Rattle.desk.proofs.lending.ask_audit.Key.{name as #desk·ask-audit}
 use Rattle.desk.proofs.lending.ask_audit as ask-audit-F
@@ -87,7 +87,7 @@ module _ {M : Type 1} (𝓤 : URA M) (H : Heap 𝓤) (A : Atoms 𝓤) (W : Given
       suffices ! _ (ends-at 𝓤 H A ask-audit-F.ended stayed (ask-audit-F.clauses 𝓤 H A mem run) W bound-of vunit tt (tt, (tt, (tt, tt))) (tt, (tt, (tt, tt)))) $ empties ! $
       nothing ! $ move ! (2 ∷ 0 ∷ []) $ join ! $ move ! (1 ∷ 0 ∷ []) $ join ! $ frame ! $ nothing ! $ nothing ! $ fjoin ! $ nothing ! $ fjoin ! $ nothing ! $ fjoin ! $ frame ! $ feqI ! (List Val) (vunit ∷ []) (vunit ∷ []) refl $ done !
 
-  module _ (𝓣 : Tables 𝓤 H) (fm : FmC 𝓤 H (W .laws) (𝓣 .C)) (known-audit : Triple 𝓤 (𝓣 .C #index·audit) (contractOf 𝓤 H A audit-F.ended (audit-F.clauses 𝓤 H A mem run))) (known-say-done : Triple 𝓤 (𝓣 .C #desk·say-done) (contractOf 𝓤 H A say-done-F.ended (say-done-F.clauses 𝓤 H A mem run))) where
+  module _ (𝓣 : Tables 𝓤 H) (fm : FmC 𝓤 H (W .laws) (𝓣 .C)) (known-audit : Triple 𝓤 (𝓣 .C #index·audit) (contractOf 𝓤 H A audit-F.ended (audit-F.clauses 𝓤 H A mem run))) (known-say-done : Triple 𝓤 (𝓣 .C #lines·say-done) (contractOf 𝓤 H A say-done-F.ended (say-done-F.clauses 𝓤 H A mem run))) where
     walk : Room u32 (length words) → Room Fence-T.the-row (length fences) → Is Header-T.the-row header (SL.vals Header-T.the-type Header-L.the-laws header) → ent 𝓤 (onEntry 𝓤 H A ask-audit-F.signature (κ₀, (κ₁, tt)) (q₀, (q₁, tt)) args-of vals-of) (WpFn 𝓤 H (𝓣 .C) (𝓣 .Λ) code.function (sliceVal (b₀, o₀) (length words) ∷ sliceVal (b₁, o₁) (length fences) ∷ SL.val Header-T.the-type Header-L.the-laws header ∷ []) Post)
     walk room-words room-fences is-header =
         qed W ((‵ (flft κ₀ q₀) ⊛ (‵ (flft κ₁ q₁) ⊛ ‵ ftrue)) ∷ ‵ (owns (ShrSlice (named 0) κ₀ u32 ∷ ShrSlice (named 1) κ₁ Fence-T.the-row ∷ Header-T.the-row ∷ []) args-of vals-of) ∷ []) ∵ enter ! (𝓣 .C) (𝓣 .Λ) code.function (sliceVal (b₀, o₀) (length words) ∷ sliceVal (b₁, o₁) (length fences) ∷ SL.val Header-T.the-type Header-L.the-laws header ∷ []) _ $
@@ -101,7 +101,7 @@ module _ {M : Type 1} (𝓤 : URA M) (H : Heap 𝓤) (A : Atoms 𝓤) (W : Given
         (λ r1. paper r1 ≡ auditOutcome header (memoryOf words fences) .answer) (λ κs δ₀ δ₁ r1 ws. id⊢ 𝓤 _) (λ κs δ₀ δ₁. (and-then ! (load ! (from ! (stop !)) (look ! 12 refl)) (and-then ! (load ! (from ! (stop !)) (look ! 10 refl)) (and-then ! (load ! (from ! (stop !)) (look ! 8 refl)) (no-more !)))))
         (λ u1 r1 e1 is1.
         land ! (from ! (stop !)) (init ! 6 refl (EL.lawful Answer-T.the-type Answer-L.the-laws 𝓤 H A W tt .typed r1 _ is1 .0)) $ rewrite ! 6 (λ (w : Val). ‵ (fat fullShare (Answer-L.mir) l₄ 0 w)) (ap only (EL.tells Answer-T.the-type Answer-L.the-laws r1 _ is1)) refl $
-        -- say_done
+        -- lines::say::say_done
         calls-plain ! fm NoValue (plain (λ _. Answer-T.the-row) ∷ []) (yes, tt) (say-done-F.clauses 𝓤 H A mem run) known-say-done
         (λ κs. (r1, tt)) (λ κs. (EL.val Answer-T.the-type Answer-L.the-laws r1 ∷ [], tt)) (λ κs. owns-make 𝓤 H A (Answer-T.the-row ∷ []) (Ises (Answer-T.the-row ∷ [])) (EL.makes Answer-T.the-type Answer-L.the-plain 𝓤 H A, tt) (r1, tt) (EL.val Answer-T.the-type Answer-L.the-laws r1 ∷ [], tt) ((told-enum Answer-T.the-type Answer-L.the-laws r1 _ is1), tt)) (λ κs. tt) (λ κs. id⊢ 𝓤 _)
         (λ r2. Unit {0}) (λ κs r2 ws. factI 𝓤 (Unit {0}) (emp 𝓤) tt) (λ κs. (and-then ! (load ! (from ! (stop !)) (look ! 7 refl)) (no-more !)))
@@ -114,12 +114,12 @@ module _ {M : Type 1} (𝓤 : URA M) (H : Heap 𝓤) (A : Atoms 𝓤) (W : Given
         by ! (exits)))))))))
 
 module _ {M : Type 1} (𝓤 : URA M) (H : Heap 𝓤) (A : Atoms 𝓤) (W : Given 𝓤 H A) (mem : Memory → SProp 𝓤) (run : Routine → Fun 𝓤) where
-  ask-audit-walks : (𝓣 : Tables 𝓤 H) → Triple 𝓤 (𝓣 .C #index·audit) (contractOf 𝓤 H A audit-F.ended (audit-F.clauses 𝓤 H A mem run)) → Triple 𝓤 (𝓣 .C #desk·say-done) (contractOf 𝓤 H A say-done-F.ended (say-done-F.clauses 𝓤 H A mem run)) → Walks 𝓤 H A ask-audit-F.ended stayed (WpFn 𝓤 H (𝓣 .C) (𝓣 .Λ) code.function) (ask-audit-F.clauses 𝓤 H A mem run)
+  ask-audit-walks : (𝓣 : Tables 𝓤 H) → Triple 𝓤 (𝓣 .C #index·audit) (contractOf 𝓤 H A audit-F.ended (audit-F.clauses 𝓤 H A mem run)) → Triple 𝓤 (𝓣 .C #lines·say-done) (contractOf 𝓤 H A say-done-F.ended (say-done-F.clauses 𝓤 H A mem run)) → Walks 𝓤 H A ask-audit-F.ended stayed (WpFn 𝓤 H (𝓣 .C) (𝓣 .Λ) code.function) (ask-audit-F.clauses 𝓤 H A mem run)
   ask-audit-walks 𝓣 known-audit known-say-done =
       walked 𝓤 H A ask-audit-F.ended stayed (ask-audit-F.clauses 𝓤 H A mem run) (WpFn 𝓤 H (𝓣 .C) (𝓣 .Λ) code.function) (λ κs. (slice-vals, (slice-vals, (SL.vals Header-T.the-type Header-L.the-laws, tt)))) (λ κs. (shr-slice-tells (named 0) (κs .0) u32, (shr-slice-tells (named 1) (κs .1 .0) Fence-T.the-row, (SL.tells Header-T.the-type Header-L.the-laws, tt))))
       (λ κs qs bounds a g are. via 𝓤 _ (fst∗ 𝓤 _ (emp 𝓤)) (walk 𝓤 H A W mem run (κs .0) (κs .1 .0) (qs .0) (qs .1 .0) (a .0 .ptr .0) (a .0 .ptr .1) (a .0 .name) (a .0 .now) (a .1 .0 .ptr .0) (a .1 .0 .ptr .1) (a .1 .0 .name) (a .1 .0 .now) (a .1 .1 .0) 𝓣 (fmOf 𝓤 H (W .laws) 𝓣) known-audit known-say-done (are .0 .0 .1) (are .1 .0 .0 .1) (are .1 .1 .0)))
 
-ask-audit-meets : {M : Type 1} (𝓤 : URA M) (H : Heap 𝓤) (A : Atoms 𝓤) (W : Given 𝓤 H A) (mem : Memory → SProp 𝓤) (run : Routine → Fun 𝓤) (𝓣 : Tables 𝓤 H) → Triple 𝓤 (𝓣 .C #index·audit) (contractOf 𝓤 H A audit-F.ended (audit-F.clauses 𝓤 H A mem run)) → Triple 𝓤 (𝓣 .C #desk·say-done) (contractOf 𝓤 H A say-done-F.ended (say-done-F.clauses 𝓤 H A mem run)) → Meets 𝓤 H A ask-audit-F.signature (WpFn 𝓤 H (𝓣 .C) (𝓣 .Λ) code.function) (ask-audit-F.spec 𝓤 H A mem run)
+ask-audit-meets : {M : Type 1} (𝓤 : URA M) (H : Heap 𝓤) (A : Atoms 𝓤) (W : Given 𝓤 H A) (mem : Memory → SProp 𝓤) (run : Routine → Fun 𝓤) (𝓣 : Tables 𝓤 H) → Triple 𝓤 (𝓣 .C #index·audit) (contractOf 𝓤 H A audit-F.ended (audit-F.clauses 𝓤 H A mem run)) → Triple 𝓤 (𝓣 .C #lines·say-done) (contractOf 𝓤 H A say-done-F.ended (say-done-F.clauses 𝓤 H A mem run)) → Meets 𝓤 H A ask-audit-F.signature (WpFn 𝓤 H (𝓣 .C) (𝓣 .Λ) code.function) (ask-audit-F.spec 𝓤 H A mem run)
 ask-audit-meets 𝓤 H A W mem run 𝓣 known-audit known-say-done =
     walk-meets 𝓤 H A ask-audit-F.ended stayed W (goes-dropped 𝓤 H A W 2 (shrSliceOf (0 ∷ []) tt (plain (λ _. u32))) yes (λ κs x f. refl), (goes-dropped 𝓤 H A W 2 (shrSliceOf (1 ∷ []) tt (plain (λ _. Fence-T.the-row))) yes (λ κs x f. refl), (goes-dropped 𝓤 H A W 2 (plain (λ _. Header-T.the-row)) yes (λ κs x f. refl), tt)))
     (ask-audit-F.clauses 𝓤 H A mem run) (WpFn 𝓤 H (𝓣 .C) (𝓣 .Λ) code.function) (WpFn-mono 𝓤 H (W .laws) 𝓣 code.function) (ask-audit-walks 𝓤 H A W mem run 𝓣 known-audit known-say-done)
@@ -131,4 +131,4 @@ ask-audit-spec 𝓤 H 𝓜 𝓖 𝓡 =
     (tables 𝓤 H 𝓜 𝓡 code.env .C) (tables 𝓤 H 𝓜 𝓡 code.env .Λ) #desk·ask-audit code.function (code.unfolded 𝓤 H 𝓜 𝓡)
     (ask-audit-meets 𝓤 H (𝓖 .A) (givenOf 𝓤 H 𝓜 𝓖) (𝓜 .mem) (𝓡 .run) (tablesOf 𝓤 H 𝓜 (tables 𝓤 H 𝓜 𝓡 code.env))
     (cited 𝓤 H (tripleOf 𝓤 H (𝓖 .A) audit-F.signature (audit-F.spec 𝓤 H (𝓖 .A) (𝓜 .mem) (𝓡 .run))) 𝓜 𝓡 code.env #index·audit audit-def.routine code.calls-index·auditing·audit (audit-thm.met 𝓤 H 𝓜 𝓖 𝓡))
-    (cited 𝓤 H (tripleOf 𝓤 H (𝓖 .A) say-done-F.signature (say-done-F.spec 𝓤 H (𝓖 .A) (𝓜 .mem) (𝓡 .run))) 𝓜 𝓡 code.env #desk·say-done say-done-def.routine code.calls-desk·say·say-done (say-done-thm.met 𝓤 H 𝓜 𝓖 𝓡)))
+    (cited 𝓤 H (tripleOf 𝓤 H (𝓖 .A) say-done-F.signature (say-done-F.spec 𝓤 H (𝓖 .A) (𝓜 .mem) (𝓡 .run))) 𝓜 𝓡 code.env #lines·say-done say-done-def.routine code.calls-lines·say·say-done (say-done-thm.met 𝓤 H 𝓜 𝓖 𝓡)))

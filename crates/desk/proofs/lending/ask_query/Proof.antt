@@ -67,7 +67,7 @@ use Rattle.index.proofs.answering.query.Symbol.{name as #index·query}
 use Rattle.index.proofs.answering.query.Met as query-thm
 use Rattle.lines.proofs.say.say_list as say-list-F
 use Rattle.lines.proofs.say.say_list.Symbol as say-list-def
-use Rattle.lines.proofs.say.say_list.Symbol.{name as #desk·say-list}
+use Rattle.lines.proofs.say.say_list.Symbol.{name as #lines·say-list}
 use Rattle.lines.proofs.say.say_list.Met as say-list-thm
 use Rattle.desk.proofs.lending.ask_query.Key.{name as #desk·ask-query}
 use Rattle.desk.proofs.lending.ask_query as ask-query-F
@@ -113,7 +113,7 @@ module _ {M : Type 1} (𝓤 : URA M) (H : Heap 𝓤) (A : Atoms 𝓤) (W : Given
       suffices ! _ (ends-at 𝓤 H A ask-query-F.ended stayed (ask-query-F.clauses 𝓤 H A mem run) W bound-of vunit tt (tt, (tt, (tt, (tt, tt)))) (tt, (tt, (tt, (tt, tt))))) $ empties ! $
       nothing ! $ move ! (2 ∷ 0 ∷ []) $ join ! $ move ! (1 ∷ 0 ∷ []) $ join ! $ frame ! $ nothing ! $ nothing ! $ fjoin ! $ nothing ! $ fjoin ! $ nothing ! $ fjoin ! $ nothing ! $ fjoin ! $ frame ! $ feqI ! (List Val) (vunit ∷ []) (vunit ∷ []) refl $ done !
 
-  module _ (𝓣 : Tables 𝓤 H) (fm : FmC 𝓤 H (W .laws) (𝓣 .C)) (known-words-rows-smaller : Triple 𝓤 (𝓣 .C #words·words-rows-smaller) (contractOf 𝓤 H A words-rows-smaller-F.ended (words-rows-smaller-F.clauses 𝓤 H A mem run))) (known-query : Triple 𝓤 (𝓣 .C #index·query) (contractOf 𝓤 H A query-F.ended (query-F.clauses 𝓤 H A mem run))) (known-say-list : Triple 𝓤 (𝓣 .C #desk·say-list) (contractOf 𝓤 H A say-list-F.ended (say-list-F.clauses 𝓤 H A mem run))) where
+  module _ (𝓣 : Tables 𝓤 H) (fm : FmC 𝓤 H (W .laws) (𝓣 .C)) (known-words-rows-smaller : Triple 𝓤 (𝓣 .C #words·words-rows-smaller) (contractOf 𝓤 H A words-rows-smaller-F.ended (words-rows-smaller-F.clauses 𝓤 H A mem run))) (known-query : Triple 𝓤 (𝓣 .C #index·query) (contractOf 𝓤 H A query-F.ended (query-F.clauses 𝓤 H A mem run))) (known-say-list : Triple 𝓤 (𝓣 .C #lines·say-list) (contractOf 𝓤 H A say-list-F.ended (say-list-F.clauses 𝓤 H A mem run))) where
     walk : Room u32 (length words) → Room Fence-T.the-row (length fences) → Is Lent-T.the-row lent (SL.vals Lent-T.the-type Lent-L.the-laws lent) → value < 2 ^ 32 → ent 𝓤 (onEntry 𝓤 H A ask-query-F.signature (κ₀, (κ₁, tt)) (q₀, (q₁, tt)) args-of vals-of) (WpFn 𝓤 H (𝓣 .C) (𝓣 .Λ) code.function (sliceVal (b₀, o₀) (length words) ∷ sliceVal (b₁, o₁) (length fences) ∷ SL.val Lent-T.the-type Lent-L.the-laws lent ∷ vint w32 value ∷ []) Post)
     walk room-words room-fences is-lent fit-value =
         qed W ((‵ (flft κ₀ q₀) ⊛ (‵ (flft κ₁ q₁) ⊛ ‵ ftrue)) ∷ ‵ (owns (ShrSlice (named 0) κ₀ u32 ∷ ShrSlice (named 1) κ₁ Fence-T.the-row ∷ Lent-T.the-row ∷ u32 ∷ []) args-of vals-of) ∷ []) ∵ enter ! (𝓣 .C) (𝓣 .Λ) code.function (sliceVal (b₀, o₀) (length words) ∷ sliceVal (b₁, o₁) (length fences) ∷ SL.val Lent-T.the-type Lent-L.the-laws lent ∷ vint w32 value ∷ []) _ $
@@ -143,7 +143,7 @@ module _ {M : Type 1} (𝓤 : URA M) (H : Heap 𝓤) (A : Atoms 𝓤) (W : Given
         assigns ! (addr ! (from ! (stop !))) (from ! (stop !)) (init ! 8 refl (tt, tt)) $
         assigns ! (agg ! (and-then ! (load ! (from ! (stop !)) (look ! 8 refl)) (and-then ! (big-lit ! (record { fits = lit< tt })) (no-more !)))) (from ! (stop !)) (init ! 6 refl (tt, (tt, (record { fits = lit< tt }, tt)))) $
         move ! (4 ∷ 5 ∷ []) $
-        -- say_list
+        -- lines::say::say_list
         calls-view ! fm u32 NoValue (plain (λ _. Answer-T.the-row) ∷ []) (yes, tt) (say-list-F.clauses 𝓤 H A mem run) known-say-list l₅ 0 δ′₅ (refronted r1 list list2) 126976 (front-length r1 list 126976 n-list (front-1 lent r1 e1) list2 n-list2)
         (λ κs. (r2, tt)) (λ κs. (EL.val Answer-T.the-type Answer-L.the-laws r2 ∷ [], tt)) (λ κs. owns-make 𝓤 H A (Answer-T.the-row ∷ []) (Ises (Answer-T.the-row ∷ [])) (EL.makes Answer-T.the-type Answer-L.the-plain 𝓤 H A, tt) (r2, tt) (EL.val Answer-T.the-type Answer-L.the-laws r2 ∷ [], tt) ((told-enum Answer-T.the-type Answer-L.the-laws r2 _ is2), tt)) (λ κs δ₀. tt) (λ κs δ₀. id⊢ 𝓤 _)
         (λ r3. Unit {0}) (λ κs δ₀ r3 ws. factI 𝓤 (Unit {0}) (emp 𝓤) tt) (λ κs δ₀. (and-then ! (load ! (from ! (stop !)) (look ! 6 refl)) (and-then ! (load ! (from ! (stop !)) (look ! 16 refl)) (no-more !))))
@@ -158,12 +158,12 @@ module _ {M : Type 1} (𝓤 : URA M) (H : Heap 𝓤) (A : Atoms 𝓤) (W : Given
         by ! (exits)))))))))))))))))))
 
 module _ {M : Type 1} (𝓤 : URA M) (H : Heap 𝓤) (A : Atoms 𝓤) (W : Given 𝓤 H A) (mem : Memory → SProp 𝓤) (run : Routine → Fun 𝓤) where
-  ask-query-walks : (𝓣 : Tables 𝓤 H) → Triple 𝓤 (𝓣 .C #words·words-rows-smaller) (contractOf 𝓤 H A words-rows-smaller-F.ended (words-rows-smaller-F.clauses 𝓤 H A mem run)) → Triple 𝓤 (𝓣 .C #index·query) (contractOf 𝓤 H A query-F.ended (query-F.clauses 𝓤 H A mem run)) → Triple 𝓤 (𝓣 .C #desk·say-list) (contractOf 𝓤 H A say-list-F.ended (say-list-F.clauses 𝓤 H A mem run)) → Walks 𝓤 H A ask-query-F.ended stayed (WpFn 𝓤 H (𝓣 .C) (𝓣 .Λ) code.function) (ask-query-F.clauses 𝓤 H A mem run)
+  ask-query-walks : (𝓣 : Tables 𝓤 H) → Triple 𝓤 (𝓣 .C #words·words-rows-smaller) (contractOf 𝓤 H A words-rows-smaller-F.ended (words-rows-smaller-F.clauses 𝓤 H A mem run)) → Triple 𝓤 (𝓣 .C #index·query) (contractOf 𝓤 H A query-F.ended (query-F.clauses 𝓤 H A mem run)) → Triple 𝓤 (𝓣 .C #lines·say-list) (contractOf 𝓤 H A say-list-F.ended (say-list-F.clauses 𝓤 H A mem run)) → Walks 𝓤 H A ask-query-F.ended stayed (WpFn 𝓤 H (𝓣 .C) (𝓣 .Λ) code.function) (ask-query-F.clauses 𝓤 H A mem run)
   ask-query-walks 𝓣 known-words-rows-smaller known-query known-say-list =
       walked 𝓤 H A ask-query-F.ended stayed (ask-query-F.clauses 𝓤 H A mem run) (WpFn 𝓤 H (𝓣 .C) (𝓣 .Λ) code.function) (λ κs. (slice-vals, (slice-vals, (SL.vals Lent-T.the-type Lent-L.the-laws, (uint-vals w32, tt))))) (λ κs. (shr-slice-tells (named 0) (κs .0) u32, (shr-slice-tells (named 1) (κs .1 .0) Fence-T.the-row, (SL.tells Lent-T.the-type Lent-L.the-laws, (uint-tells w32, tt)))))
       (λ κs qs bounds a g are. via 𝓤 _ (fst∗ 𝓤 _ (emp 𝓤)) (walk 𝓤 H A W mem run (κs .0) (κs .1 .0) (qs .0) (qs .1 .0) (a .0 .ptr .0) (a .0 .ptr .1) (a .0 .name) (a .0 .now) (a .1 .0 .ptr .0) (a .1 .0 .ptr .1) (a .1 .0 .name) (a .1 .0 .now) (a .1 .1 .0) (a .1 .1 .1 .0) 𝓣 (fmOf 𝓤 H (W .laws) 𝓣) known-words-rows-smaller known-query known-say-list (are .0 .0 .1) (are .1 .0 .0 .1) (are .1 .1 .0) (are .1 .1 .1 .0 .1)))
 
-ask-query-meets : {M : Type 1} (𝓤 : URA M) (H : Heap 𝓤) (A : Atoms 𝓤) (W : Given 𝓤 H A) (mem : Memory → SProp 𝓤) (run : Routine → Fun 𝓤) (𝓣 : Tables 𝓤 H) → Triple 𝓤 (𝓣 .C #words·words-rows-smaller) (contractOf 𝓤 H A words-rows-smaller-F.ended (words-rows-smaller-F.clauses 𝓤 H A mem run)) → Triple 𝓤 (𝓣 .C #index·query) (contractOf 𝓤 H A query-F.ended (query-F.clauses 𝓤 H A mem run)) → Triple 𝓤 (𝓣 .C #desk·say-list) (contractOf 𝓤 H A say-list-F.ended (say-list-F.clauses 𝓤 H A mem run)) → Meets 𝓤 H A ask-query-F.signature (WpFn 𝓤 H (𝓣 .C) (𝓣 .Λ) code.function) (ask-query-F.spec 𝓤 H A mem run)
+ask-query-meets : {M : Type 1} (𝓤 : URA M) (H : Heap 𝓤) (A : Atoms 𝓤) (W : Given 𝓤 H A) (mem : Memory → SProp 𝓤) (run : Routine → Fun 𝓤) (𝓣 : Tables 𝓤 H) → Triple 𝓤 (𝓣 .C #words·words-rows-smaller) (contractOf 𝓤 H A words-rows-smaller-F.ended (words-rows-smaller-F.clauses 𝓤 H A mem run)) → Triple 𝓤 (𝓣 .C #index·query) (contractOf 𝓤 H A query-F.ended (query-F.clauses 𝓤 H A mem run)) → Triple 𝓤 (𝓣 .C #lines·say-list) (contractOf 𝓤 H A say-list-F.ended (say-list-F.clauses 𝓤 H A mem run)) → Meets 𝓤 H A ask-query-F.signature (WpFn 𝓤 H (𝓣 .C) (𝓣 .Λ) code.function) (ask-query-F.spec 𝓤 H A mem run)
 ask-query-meets 𝓤 H A W mem run 𝓣 known-words-rows-smaller known-query known-say-list =
     walk-meets 𝓤 H A ask-query-F.ended stayed W (goes-dropped 𝓤 H A W 2 (shrSliceOf (0 ∷ []) tt (plain (λ _. u32))) yes (λ κs x f. refl), (goes-dropped 𝓤 H A W 2 (shrSliceOf (1 ∷ []) tt (plain (λ _. Fence-T.the-row))) yes (λ κs x f. refl), (goes-dropped 𝓤 H A W 2 (plain (λ _. Lent-T.the-row)) yes (λ κs x f. refl), (goes-dropped 𝓤 H A W 2 (plain (λ _. u32)) yes (λ κs x f. refl), tt))))
     (ask-query-F.clauses 𝓤 H A mem run) (WpFn 𝓤 H (𝓣 .C) (𝓣 .Λ) code.function) (WpFn-mono 𝓤 H (W .laws) 𝓣 code.function) (ask-query-walks 𝓤 H A W mem run 𝓣 known-words-rows-smaller known-query known-say-list)
@@ -176,4 +176,4 @@ ask-query-spec 𝓤 H 𝓜 𝓖 𝓡 =
     (ask-query-meets 𝓤 H (𝓖 .A) (givenOf 𝓤 H 𝓜 𝓖) (𝓜 .mem) (𝓡 .run) (tablesOf 𝓤 H 𝓜 (tables 𝓤 H 𝓜 𝓡 code.env))
     (cited 𝓤 H (tripleOf 𝓤 H (𝓖 .A) words-rows-smaller-F.signature (words-rows-smaller-F.spec 𝓤 H (𝓖 .A) (𝓜 .mem) (𝓡 .run))) 𝓜 𝓡 code.env #words·words-rows-smaller words-rows-smaller-def.routine code.calls-words·rows·smaller (words-rows-smaller-thm.met 𝓤 H 𝓜 𝓖 𝓡))
     (cited 𝓤 H (tripleOf 𝓤 H (𝓖 .A) query-F.signature (query-F.spec 𝓤 H (𝓖 .A) (𝓜 .mem) (𝓡 .run))) 𝓜 𝓡 code.env #index·query query-def.routine code.calls-index·answering·query (query-thm.met 𝓤 H 𝓜 𝓖 𝓡))
-    (cited 𝓤 H (tripleOf 𝓤 H (𝓖 .A) say-list-F.signature (say-list-F.spec 𝓤 H (𝓖 .A) (𝓜 .mem) (𝓡 .run))) 𝓜 𝓡 code.env #desk·say-list say-list-def.routine code.calls-desk·say·say-list (say-list-thm.met 𝓤 H 𝓜 𝓖 𝓡)))
+    (cited 𝓤 H (tripleOf 𝓤 H (𝓖 .A) say-list-F.signature (say-list-F.spec 𝓤 H (𝓖 .A) (𝓜 .mem) (𝓡 .run))) 𝓜 𝓡 code.env #lines·say-list say-list-def.routine code.calls-lines·say·say-list (say-list-thm.met 𝓤 H 𝓜 𝓖 𝓡)))

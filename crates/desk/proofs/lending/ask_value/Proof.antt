@@ -54,7 +54,7 @@ use Rattle.index.proofs.answering.value.Symbol.{name as #index·value}
 use Rattle.index.proofs.answering.value.Met as value-thm
 use Rattle.lines.proofs.say.say_value as say-value-F
 use Rattle.lines.proofs.say.say_value.Symbol as say-value-def
-use Rattle.lines.proofs.say.say_value.Symbol.{name as #desk·say-value}
+use Rattle.lines.proofs.say.say_value.Symbol.{name as #lines·say-value}
 use Rattle.lines.proofs.say.say_value.Met as say-value-thm
 use Rattle.desk.proofs.lending.ask_value.Key.{name as #desk·ask-value}
 use Rattle.desk.proofs.lending.ask_value as ask-value-F
@@ -86,7 +86,7 @@ module _ {M : Type 1} (𝓤 : URA M) (H : Heap 𝓤) (A : Atoms 𝓤) (W : Given
       suffices ! _ (ends-at 𝓤 H A ask-value-F.ended stayed (ask-value-F.clauses 𝓤 H A mem run) W bound-of vunit tt (tt, (tt, (tt, (tt, tt)))) (tt, (tt, (tt, (tt, tt))))) $ empties ! $
       nothing ! $ move ! (2 ∷ 0 ∷ []) $ join ! $ move ! (1 ∷ 0 ∷ []) $ join ! $ frame ! $ nothing ! $ nothing ! $ fjoin ! $ nothing ! $ fjoin ! $ nothing ! $ fjoin ! $ nothing ! $ fjoin ! $ frame ! $ feqI ! (List Val) (vunit ∷ []) (vunit ∷ []) refl $ done !
 
-  module _ (𝓣 : Tables 𝓤 H) (fm : FmC 𝓤 H (W .laws) (𝓣 .C)) (known-value : Triple 𝓤 (𝓣 .C #index·value) (contractOf 𝓤 H A value-F.ended (value-F.clauses 𝓤 H A mem run))) (known-say-value : Triple 𝓤 (𝓣 .C #desk·say-value) (contractOf 𝓤 H A say-value-F.ended (say-value-F.clauses 𝓤 H A mem run))) where
+  module _ (𝓣 : Tables 𝓤 H) (fm : FmC 𝓤 H (W .laws) (𝓣 .C)) (known-value : Triple 𝓤 (𝓣 .C #index·value) (contractOf 𝓤 H A value-F.ended (value-F.clauses 𝓤 H A mem run))) (known-say-value : Triple 𝓤 (𝓣 .C #lines·say-value) (contractOf 𝓤 H A say-value-F.ended (say-value-F.clauses 𝓤 H A mem run))) where
     walk : Room u32 (length words) → Room Fence-T.the-row (length fences) → Is Header-T.the-row header (SL.vals Header-T.the-type Header-L.the-laws header) → row′ < 2 ^ 32 → ent 𝓤 (onEntry 𝓤 H A ask-value-F.signature (κ₀, (κ₁, tt)) (q₀, (q₁, tt)) args-of vals-of) (WpFn 𝓤 H (𝓣 .C) (𝓣 .Λ) code.function (sliceVal (b₀, o₀) (length words) ∷ sliceVal (b₁, o₁) (length fences) ∷ SL.val Header-T.the-type Header-L.the-laws header ∷ vint w32 row′ ∷ []) Post)
     walk room-words room-fences is-header fit-row′ =
         qed W ((‵ (flft κ₀ q₀) ⊛ (‵ (flft κ₁ q₁) ⊛ ‵ ftrue)) ∷ ‵ (owns (ShrSlice (named 0) κ₀ u32 ∷ ShrSlice (named 1) κ₁ Fence-T.the-row ∷ Header-T.the-row ∷ u32 ∷ []) args-of vals-of) ∷ []) ∵ enter ! (𝓣 .C) (𝓣 .Λ) code.function (sliceVal (b₀, o₀) (length words) ∷ sliceVal (b₁, o₁) (length fences) ∷ SL.val Header-T.the-type Header-L.the-laws header ∷ vint w32 row′ ∷ []) _ $
@@ -100,7 +100,7 @@ module _ {M : Type 1} (𝓤 : URA M) (H : Heap 𝓤) (A : Atoms 𝓤) (W : Given
         (λ r1. valuePaper r1 ≡ valueOutcome header (memoryOf words fences) row′) (λ κs δ₀ δ₁ r1 ws. id⊢ 𝓤 _) (λ κs δ₀ δ₁. (and-then ! (load ! (from ! (stop !)) (look ! 14 refl)) (and-then ! (load ! (from ! (stop !)) (look ! 12 refl)) (and-then ! (load ! (from ! (stop !)) (look ! 10 refl)) (and-then ! (load ! (from ! (stop !)) (look ! 8 refl)) (no-more !))))))
         (λ u1 r1 e1 is1.
         land ! (from ! (stop !)) (init ! 6 refl (SL.lawful Value-T.the-type Value-L.the-laws 𝓤 H A W .typed r1 _ is1 .0)) $ rewrite ! 6 (λ (w : Val). ‵ (fat fullShare (Value-L.mir) l₅ 0 w)) (ap only (SL.tells Value-T.the-type Value-L.the-laws r1 _ is1)) refl $
-        -- say_value
+        -- lines::say::say_value
         calls-plain ! fm NoValue (plain (λ _. Value-T.the-row) ∷ []) (yes, tt) (say-value-F.clauses 𝓤 H A mem run) known-say-value
         (λ κs. (r1, tt)) (λ κs. (SL.val Value-T.the-type Value-L.the-laws r1 ∷ [], tt)) (λ κs. owns-make 𝓤 H A (Value-T.the-row ∷ []) (Ises (Value-T.the-row ∷ [])) (SL.makes Value-T.the-type Value-L.the-plain 𝓤 H A, tt) (r1, tt) (SL.val Value-T.the-type Value-L.the-laws r1 ∷ [], tt) ((told Value-T.the-type Value-L.the-laws r1 _ is1), tt)) (λ κs. tt) (λ κs. id⊢ 𝓤 _)
         (λ r2. Unit {0}) (λ κs r2 ws. factI 𝓤 (Unit {0}) (emp 𝓤) tt) (λ κs. (and-then ! (load ! (from ! (stop !)) (look ! 7 refl)) (no-more !)))
@@ -113,12 +113,12 @@ module _ {M : Type 1} (𝓤 : URA M) (H : Heap 𝓤) (A : Atoms 𝓤) (W : Given
         by ! (exits))))))))))
 
 module _ {M : Type 1} (𝓤 : URA M) (H : Heap 𝓤) (A : Atoms 𝓤) (W : Given 𝓤 H A) (mem : Memory → SProp 𝓤) (run : Routine → Fun 𝓤) where
-  ask-value-walks : (𝓣 : Tables 𝓤 H) → Triple 𝓤 (𝓣 .C #index·value) (contractOf 𝓤 H A value-F.ended (value-F.clauses 𝓤 H A mem run)) → Triple 𝓤 (𝓣 .C #desk·say-value) (contractOf 𝓤 H A say-value-F.ended (say-value-F.clauses 𝓤 H A mem run)) → Walks 𝓤 H A ask-value-F.ended stayed (WpFn 𝓤 H (𝓣 .C) (𝓣 .Λ) code.function) (ask-value-F.clauses 𝓤 H A mem run)
+  ask-value-walks : (𝓣 : Tables 𝓤 H) → Triple 𝓤 (𝓣 .C #index·value) (contractOf 𝓤 H A value-F.ended (value-F.clauses 𝓤 H A mem run)) → Triple 𝓤 (𝓣 .C #lines·say-value) (contractOf 𝓤 H A say-value-F.ended (say-value-F.clauses 𝓤 H A mem run)) → Walks 𝓤 H A ask-value-F.ended stayed (WpFn 𝓤 H (𝓣 .C) (𝓣 .Λ) code.function) (ask-value-F.clauses 𝓤 H A mem run)
   ask-value-walks 𝓣 known-value known-say-value =
       walked 𝓤 H A ask-value-F.ended stayed (ask-value-F.clauses 𝓤 H A mem run) (WpFn 𝓤 H (𝓣 .C) (𝓣 .Λ) code.function) (λ κs. (slice-vals, (slice-vals, (SL.vals Header-T.the-type Header-L.the-laws, (uint-vals w32, tt))))) (λ κs. (shr-slice-tells (named 0) (κs .0) u32, (shr-slice-tells (named 1) (κs .1 .0) Fence-T.the-row, (SL.tells Header-T.the-type Header-L.the-laws, (uint-tells w32, tt)))))
       (λ κs qs bounds a g are. via 𝓤 _ (fst∗ 𝓤 _ (emp 𝓤)) (walk 𝓤 H A W mem run (κs .0) (κs .1 .0) (qs .0) (qs .1 .0) (a .0 .ptr .0) (a .0 .ptr .1) (a .0 .name) (a .0 .now) (a .1 .0 .ptr .0) (a .1 .0 .ptr .1) (a .1 .0 .name) (a .1 .0 .now) (a .1 .1 .0) (a .1 .1 .1 .0) 𝓣 (fmOf 𝓤 H (W .laws) 𝓣) known-value known-say-value (are .0 .0 .1) (are .1 .0 .0 .1) (are .1 .1 .0) (are .1 .1 .1 .0 .1)))
 
-ask-value-meets : {M : Type 1} (𝓤 : URA M) (H : Heap 𝓤) (A : Atoms 𝓤) (W : Given 𝓤 H A) (mem : Memory → SProp 𝓤) (run : Routine → Fun 𝓤) (𝓣 : Tables 𝓤 H) → Triple 𝓤 (𝓣 .C #index·value) (contractOf 𝓤 H A value-F.ended (value-F.clauses 𝓤 H A mem run)) → Triple 𝓤 (𝓣 .C #desk·say-value) (contractOf 𝓤 H A say-value-F.ended (say-value-F.clauses 𝓤 H A mem run)) → Meets 𝓤 H A ask-value-F.signature (WpFn 𝓤 H (𝓣 .C) (𝓣 .Λ) code.function) (ask-value-F.spec 𝓤 H A mem run)
+ask-value-meets : {M : Type 1} (𝓤 : URA M) (H : Heap 𝓤) (A : Atoms 𝓤) (W : Given 𝓤 H A) (mem : Memory → SProp 𝓤) (run : Routine → Fun 𝓤) (𝓣 : Tables 𝓤 H) → Triple 𝓤 (𝓣 .C #index·value) (contractOf 𝓤 H A value-F.ended (value-F.clauses 𝓤 H A mem run)) → Triple 𝓤 (𝓣 .C #lines·say-value) (contractOf 𝓤 H A say-value-F.ended (say-value-F.clauses 𝓤 H A mem run)) → Meets 𝓤 H A ask-value-F.signature (WpFn 𝓤 H (𝓣 .C) (𝓣 .Λ) code.function) (ask-value-F.spec 𝓤 H A mem run)
 ask-value-meets 𝓤 H A W mem run 𝓣 known-value known-say-value =
     walk-meets 𝓤 H A ask-value-F.ended stayed W (goes-dropped 𝓤 H A W 2 (shrSliceOf (0 ∷ []) tt (plain (λ _. u32))) yes (λ κs x f. refl), (goes-dropped 𝓤 H A W 2 (shrSliceOf (1 ∷ []) tt (plain (λ _. Fence-T.the-row))) yes (λ κs x f. refl), (goes-dropped 𝓤 H A W 2 (plain (λ _. Header-T.the-row)) yes (λ κs x f. refl), (goes-dropped 𝓤 H A W 2 (plain (λ _. u32)) yes (λ κs x f. refl), tt))))
     (ask-value-F.clauses 𝓤 H A mem run) (WpFn 𝓤 H (𝓣 .C) (𝓣 .Λ) code.function) (WpFn-mono 𝓤 H (W .laws) 𝓣 code.function) (ask-value-walks 𝓤 H A W mem run 𝓣 known-value known-say-value)
@@ -130,4 +130,4 @@ ask-value-spec 𝓤 H 𝓜 𝓖 𝓡 =
     (tables 𝓤 H 𝓜 𝓡 code.env .C) (tables 𝓤 H 𝓜 𝓡 code.env .Λ) #desk·ask-value code.function (code.unfolded 𝓤 H 𝓜 𝓡)
     (ask-value-meets 𝓤 H (𝓖 .A) (givenOf 𝓤 H 𝓜 𝓖) (𝓜 .mem) (𝓡 .run) (tablesOf 𝓤 H 𝓜 (tables 𝓤 H 𝓜 𝓡 code.env))
     (cited 𝓤 H (tripleOf 𝓤 H (𝓖 .A) value-F.signature (value-F.spec 𝓤 H (𝓖 .A) (𝓜 .mem) (𝓡 .run))) 𝓜 𝓡 code.env #index·value value-def.routine code.calls-index·answering·value (value-thm.met 𝓤 H 𝓜 𝓖 𝓡))
-    (cited 𝓤 H (tripleOf 𝓤 H (𝓖 .A) say-value-F.signature (say-value-F.spec 𝓤 H (𝓖 .A) (𝓜 .mem) (𝓡 .run))) 𝓜 𝓡 code.env #desk·say-value say-value-def.routine code.calls-desk·say·say-value (say-value-thm.met 𝓤 H 𝓜 𝓖 𝓡)))
+    (cited 𝓤 H (tripleOf 𝓤 H (𝓖 .A) say-value-F.signature (say-value-F.spec 𝓤 H (𝓖 .A) (𝓜 .mem) (𝓡 .run))) 𝓜 𝓡 code.env #lines·say-value say-value-def.routine code.calls-lines·say·say-value (say-value-thm.met 𝓤 H 𝓜 𝓖 𝓡)))

@@ -60,7 +60,7 @@ use Rattle.walks.proofs.Local.{repeats, lend-array, back-array}
 use Rattle.walks.proofs.Calls.{contractOf, calls-mut-mut-mut-last, calls-plain, calls-shr-mut}
 use Rattle.lines.proofs.columns.read_column as read-column-F
 use Rattle.lines.proofs.columns.read_column.Symbol as read-column-def
-use Rattle.lines.proofs.columns.read_column.Symbol.{name as #desk·read-column}
+use Rattle.lines.proofs.columns.read_column.Symbol.{name as #lines·read-column}
 use Rattle.lines.proofs.columns.read_column.Met as read-column-thm
 use Rattle.desk.proofs.lending.load_lent as load-lent-F
 use Rattle.desk.proofs.lending.load_lent.Symbol as load-lent-def
@@ -110,7 +110,7 @@ module _ {M : Type 1} (𝓤 : URA M) (H : Heap 𝓤) (A : Atoms 𝓤) (W : Given
       suffices ! _ (ends-at 𝓤 H A obey-load-F.ended stayed (obey-load-F.clauses 𝓤 H A mem run) W bound-of u r (words′, (fences′, (tt, (tt, (tt, (tt, tt)))))) (n-words′, (n-fences′, (tt, (tt, (tt, (tt, tt))))))) $ empties ! $
       nothing ! $ move ! (5 ∷ 0 ∷ []) $ join ! $ move ! (3 ∷ 0 ∷ []) $ join ! $ move ! (1 ∷ 0 ∷ []) $ join ! $ frame ! $ nothing ! $ nothing ! $ fjoin ! $ nothing ! $ fjoin ! $ nothing ! $ fjoin ! $ nothing ! $ fjoin ! $ move ! (2 ∷ 0 ∷ []) $ fjoin ! $ move ! (1 ∷ 0 ∷ []) $ fjoin ! $ frame ! $ owned ! Lent-T.the-row (Is Lent-T.the-row) (SL.makes Lent-T.the-type Lent-L.the-plain 𝓤 H A) r _ is $ done !
 
-  module _ (𝓣 : Tables 𝓤 H) (fm : FmC 𝓤 H (W .laws) (𝓣 .C)) (known-read-column : Triple 𝓤 (𝓣 .C #desk·read-column) (contractOf 𝓤 H A read-column-F.ended (read-column-F.clauses 𝓤 H A mem run))) (known-load-lent : Triple 𝓤 (𝓣 .C #desk·load-lent) (contractOf 𝓤 H A load-lent-F.ended (load-lent-F.clauses 𝓤 H A mem run))) (known-say-wrong : Triple 𝓤 (𝓣 .C #desk·say-wrong) (contractOf 𝓤 H A say-wrong-F.ended (say-wrong-F.clauses 𝓤 H A mem run))) where
+  module _ (𝓣 : Tables 𝓤 H) (fm : FmC 𝓤 H (W .laws) (𝓣 .C)) (known-read-column : Triple 𝓤 (𝓣 .C #lines·read-column) (contractOf 𝓤 H A read-column-F.ended (read-column-F.clauses 𝓤 H A mem run))) (known-load-lent : Triple 𝓤 (𝓣 .C #desk·load-lent) (contractOf 𝓤 H A load-lent-F.ended (load-lent-F.clauses 𝓤 H A mem run))) (known-say-wrong : Triple 𝓤 (𝓣 .C #desk·say-wrong) (contractOf 𝓤 H A say-wrong-F.ended (say-wrong-F.clauses 𝓤 H A mem run))) where
     walk : Room u32 (length words) → Room Fence-T.the-row (length fences) → Room u8 (length input) → Is Waiting-T.the-row waiting (SL.vals Waiting-T.the-type Waiting-L.the-laws waiting) → Is Lent-T.the-row lent (SL.vals Lent-T.the-type Lent-L.the-laws lent) → Is Order-T.the-row order (SL.vals Order-T.the-type Order-L.the-laws order) → ent 𝓤 (onEntry 𝓤 H A obey-load-F.signature (κ₀, (κ₁, (κ₂, tt))) (q₀, (q₁, (q₂, tt))) args-of vals-of) (WpFn 𝓤 H (𝓣 .C) (𝓣 .Λ) code.function (sliceVal (b₀, o₀) (length words) ∷ sliceVal (b₁, o₁) (length fences) ∷ sliceVal (b₂, o₂) (length input) ∷ SL.val Waiting-T.the-type Waiting-L.the-laws waiting ∷ SL.val Lent-T.the-type Lent-L.the-laws lent ∷ SL.val Order-T.the-type Order-L.the-laws order ∷ []) Post)
     walk room-words room-fences room-input is-waiting is-lent is-order =
         qed W ((‵ (flft κ₀ q₀) ⊛ (‵ (flft κ₁ q₁) ⊛ (‵ (flft κ₂ q₂) ⊛ ‵ ftrue))) ∷ ‵ (owns (MutSlice (named 0) κ₀ u32 ∷ MutSlice (named 1) κ₁ Fence-T.the-row ∷ ShrSlice (named 2) κ₂ u8 ∷ Waiting-T.the-row ∷ Lent-T.the-row ∷ Order-T.the-row ∷ []) args-of vals-of) ∷ []) ∵ enter ! (𝓣 .C) (𝓣 .Λ) code.function (sliceVal (b₀, o₀) (length words) ∷ sliceVal (b₁, o₁) (length fences) ∷ sliceVal (b₂, o₂) (length input) ∷ SL.val Waiting-T.the-type Waiting-L.the-laws waiting ∷ SL.val Lent-T.the-type Lent-L.the-laws lent ∷ SL.val Order-T.the-type Order-L.the-laws order ∷ []) _ $
@@ -125,7 +125,7 @@ module _ {M : Type 1} (𝓤 : URA M) (H : Heap 𝓤) (A : Atoms 𝓤) (W : Given
         assigns ! (addr ! (from ! (stop !))) (from ! (stop !)) (init ! 26 refl (tt, tt)) $
         assigns ! (agg ! (and-then ! (load ! (from ! (stop !)) (look ! 26 refl)) (and-then ! (big-lit ! (record { fits = lit< tt })) (no-more !)))) (from ! (stop !)) (init ! 24 refl (tt, (tt, (record { fits = lit< tt }, tt)))) $
         move ! (6 ∷ 7 ∷ 0 ∷ 1 ∷ []) $
-        -- read_column
+        -- lines::columns::read_column
         calls-shr-mut ! fm u8 u8 Counted-T.the-row (plain (λ _. Waiting-T.the-row) ∷ plain (λ _. usize) ∷ []) (yes, (yes, tt)) (read-column-F.clauses 𝓤 H A mem run) known-read-column b₂ o₂ γ₂ input (length input) refl l₇ 0 δ′₇ column 300000 n-column
         (λ κs. (waiting, ((order .rest), tt))) (λ κs. (SL.val Waiting-T.the-type Waiting-L.the-laws waiting ∷ [], (vint w64 (order .rest) ∷ [], tt))) (λ κs. owns-make 𝓤 H A (Waiting-T.the-row ∷ usize ∷ []) (Ises (Waiting-T.the-row ∷ usize ∷ [])) (SL.makes Waiting-T.the-type Waiting-L.the-plain 𝓤 H A, (uint-makes 𝓤 H A W w64, tt)) (waiting, ((order .rest), tt)) (SL.val Waiting-T.the-type Waiting-L.the-laws waiting ∷ [], (vint w64 (order .rest) ∷ [], tt)) (is-waiting, ((refl, (SL.owed Order-T.the-type Order-L.the-laws order _ is-order .1 .1 .1 .1 .1 .1 .0 .1)), tt))) (λ κs δ₀ δ₁. tt) (λ κs δ₀ δ₁. id⊢ 𝓤 _)
         (λ r1 column1. Unit {0}) (λ κs δ₀ δ₁ r1 ws. factI 𝓤 (Unit {0}) (emp 𝓤) tt) (λ κs δ₀ δ₁. (and-then ! (load ! (from ! (stop !)) (look ! 40 refl)) (and-then ! (load ! (from ! (stop !)) (look ! 24 refl)) (and-then ! (load ! (from ! (stop !)) (look ! 38 refl)) (and-then ! (load ! (from ! (fld ! refl (stop !))) (look-in ! 34 (sub ! 6 refl (whole !)))) (no-more !))))))
@@ -175,12 +175,12 @@ module _ {M : Type 1} (𝓤 : URA M) (H : Heap 𝓤) (A : Atoms 𝓤) (W : Given
         ]))))))))))))))))))))))
 
 module _ {M : Type 1} (𝓤 : URA M) (H : Heap 𝓤) (A : Atoms 𝓤) (W : Given 𝓤 H A) (mem : Memory → SProp 𝓤) (run : Routine → Fun 𝓤) where
-  obey-load-walks : (𝓣 : Tables 𝓤 H) → Triple 𝓤 (𝓣 .C #desk·read-column) (contractOf 𝓤 H A read-column-F.ended (read-column-F.clauses 𝓤 H A mem run)) → Triple 𝓤 (𝓣 .C #desk·load-lent) (contractOf 𝓤 H A load-lent-F.ended (load-lent-F.clauses 𝓤 H A mem run)) → Triple 𝓤 (𝓣 .C #desk·say-wrong) (contractOf 𝓤 H A say-wrong-F.ended (say-wrong-F.clauses 𝓤 H A mem run)) → Walks 𝓤 H A obey-load-F.ended stayed (WpFn 𝓤 H (𝓣 .C) (𝓣 .Λ) code.function) (obey-load-F.clauses 𝓤 H A mem run)
+  obey-load-walks : (𝓣 : Tables 𝓤 H) → Triple 𝓤 (𝓣 .C #lines·read-column) (contractOf 𝓤 H A read-column-F.ended (read-column-F.clauses 𝓤 H A mem run)) → Triple 𝓤 (𝓣 .C #desk·load-lent) (contractOf 𝓤 H A load-lent-F.ended (load-lent-F.clauses 𝓤 H A mem run)) → Triple 𝓤 (𝓣 .C #desk·say-wrong) (contractOf 𝓤 H A say-wrong-F.ended (say-wrong-F.clauses 𝓤 H A mem run)) → Walks 𝓤 H A obey-load-F.ended stayed (WpFn 𝓤 H (𝓣 .C) (𝓣 .Λ) code.function) (obey-load-F.clauses 𝓤 H A mem run)
   obey-load-walks 𝓣 known-read-column known-load-lent known-say-wrong =
       walked 𝓤 H A obey-load-F.ended stayed (obey-load-F.clauses 𝓤 H A mem run) (WpFn 𝓤 H (𝓣 .C) (𝓣 .Λ) code.function) (λ κs. (slice-vals, (slice-vals, (slice-vals, (SL.vals Waiting-T.the-type Waiting-L.the-laws, (SL.vals Lent-T.the-type Lent-L.the-laws, (SL.vals Order-T.the-type Order-L.the-laws, tt))))))) (λ κs. (mut-slice-tells (named 0) (κs .0) u32, (mut-slice-tells (named 1) (κs .1 .0) Fence-T.the-row, (shr-slice-tells (named 2) (κs .1 .1 .0) u8, (SL.tells Waiting-T.the-type Waiting-L.the-laws, (SL.tells Lent-T.the-type Lent-L.the-laws, (SL.tells Order-T.the-type Order-L.the-laws, tt)))))))
       (λ κs qs bounds a g are. via 𝓤 _ (fst∗ 𝓤 _ (emp 𝓤)) (walk 𝓤 H A W mem run (κs .0) (κs .1 .0) (κs .1 .1 .0) (qs .0) (qs .1 .0) (qs .1 .1 .0) (a .0 .ptr .0) (a .0 .ptr .1) (a .0 .name) (a .0 .now) (a .1 .0 .ptr .0) (a .1 .0 .ptr .1) (a .1 .0 .name) (a .1 .0 .now) (a .1 .1 .0 .ptr .0) (a .1 .1 .0 .ptr .1) (a .1 .1 .0 .name) (a .1 .1 .0 .now) (a .1 .1 .1 .0) (a .1 .1 .1 .1 .0) (a .1 .1 .1 .1 .1 .0) 𝓣 (fmOf 𝓤 H (W .laws) 𝓣) known-read-column known-load-lent known-say-wrong (are .0 .0 .1) (are .1 .0 .0 .1) (are .1 .1 .0 .0 .1) (are .1 .1 .1 .0) (are .1 .1 .1 .1 .0) (are .1 .1 .1 .1 .1 .0)))
 
-obey-load-meets : {M : Type 1} (𝓤 : URA M) (H : Heap 𝓤) (A : Atoms 𝓤) (W : Given 𝓤 H A) (mem : Memory → SProp 𝓤) (run : Routine → Fun 𝓤) (𝓣 : Tables 𝓤 H) → Triple 𝓤 (𝓣 .C #desk·read-column) (contractOf 𝓤 H A read-column-F.ended (read-column-F.clauses 𝓤 H A mem run)) → Triple 𝓤 (𝓣 .C #desk·load-lent) (contractOf 𝓤 H A load-lent-F.ended (load-lent-F.clauses 𝓤 H A mem run)) → Triple 𝓤 (𝓣 .C #desk·say-wrong) (contractOf 𝓤 H A say-wrong-F.ended (say-wrong-F.clauses 𝓤 H A mem run)) → Meets 𝓤 H A obey-load-F.signature (WpFn 𝓤 H (𝓣 .C) (𝓣 .Λ) code.function) (obey-load-F.spec 𝓤 H A mem run)
+obey-load-meets : {M : Type 1} (𝓤 : URA M) (H : Heap 𝓤) (A : Atoms 𝓤) (W : Given 𝓤 H A) (mem : Memory → SProp 𝓤) (run : Routine → Fun 𝓤) (𝓣 : Tables 𝓤 H) → Triple 𝓤 (𝓣 .C #lines·read-column) (contractOf 𝓤 H A read-column-F.ended (read-column-F.clauses 𝓤 H A mem run)) → Triple 𝓤 (𝓣 .C #desk·load-lent) (contractOf 𝓤 H A load-lent-F.ended (load-lent-F.clauses 𝓤 H A mem run)) → Triple 𝓤 (𝓣 .C #desk·say-wrong) (contractOf 𝓤 H A say-wrong-F.ended (say-wrong-F.clauses 𝓤 H A mem run)) → Meets 𝓤 H A obey-load-F.signature (WpFn 𝓤 H (𝓣 .C) (𝓣 .Λ) code.function) (obey-load-F.spec 𝓤 H A mem run)
 obey-load-meets 𝓤 H A W mem run 𝓣 known-read-column known-load-lent known-say-wrong =
     walk-meets 𝓤 H A obey-load-F.ended stayed W (goes-slice 𝓤 H A W 3 0 tt (plain (λ _. u32)), (goes-slice 𝓤 H A W 3 1 tt (plain (λ _. Fence-T.the-row)), (goes-dropped 𝓤 H A W 3 (shrSliceOf (2 ∷ []) tt (plain (λ _. u8))) yes (λ κs x f. refl), (goes-dropped 𝓤 H A W 3 (plain (λ _. Waiting-T.the-row)) yes (λ κs x f. refl), (goes-dropped 𝓤 H A W 3 (plain (λ _. Lent-T.the-row)) yes (λ κs x f. refl), (goes-dropped 𝓤 H A W 3 (plain (λ _. Order-T.the-row)) yes (λ κs x f. refl), tt))))))
     (obey-load-F.clauses 𝓤 H A mem run) (WpFn 𝓤 H (𝓣 .C) (𝓣 .Λ) code.function) (WpFn-mono 𝓤 H (W .laws) 𝓣 code.function) (obey-load-walks 𝓤 H A W mem run 𝓣 known-read-column known-load-lent known-say-wrong)
@@ -191,6 +191,6 @@ obey-load-spec 𝓤 H 𝓜 𝓖 𝓡 =
     entered 𝓤 H (tripleOf 𝓤 H (𝓖 .A) obey-load-F.signature (obey-load-F.spec 𝓤 H (𝓖 .A) (𝓜 .mem) (𝓡 .run)))
     (tables 𝓤 H 𝓜 𝓡 code.env .C) (tables 𝓤 H 𝓜 𝓡 code.env .Λ) #desk·obey-load code.function (code.unfolded 𝓤 H 𝓜 𝓡)
     (obey-load-meets 𝓤 H (𝓖 .A) (givenOf 𝓤 H 𝓜 𝓖) (𝓜 .mem) (𝓡 .run) (tablesOf 𝓤 H 𝓜 (tables 𝓤 H 𝓜 𝓡 code.env))
-    (cited 𝓤 H (tripleOf 𝓤 H (𝓖 .A) read-column-F.signature (read-column-F.spec 𝓤 H (𝓖 .A) (𝓜 .mem) (𝓡 .run))) 𝓜 𝓡 code.env #desk·read-column read-column-def.routine code.calls-desk·columns·read-column (read-column-thm.met 𝓤 H 𝓜 𝓖 𝓡))
+    (cited 𝓤 H (tripleOf 𝓤 H (𝓖 .A) read-column-F.signature (read-column-F.spec 𝓤 H (𝓖 .A) (𝓜 .mem) (𝓡 .run))) 𝓜 𝓡 code.env #lines·read-column read-column-def.routine code.calls-lines·columns·read-column (read-column-thm.met 𝓤 H 𝓜 𝓖 𝓡))
     (cited 𝓤 H (tripleOf 𝓤 H (𝓖 .A) load-lent-F.signature (load-lent-F.spec 𝓤 H (𝓖 .A) (𝓜 .mem) (𝓡 .run))) 𝓜 𝓡 code.env #desk·load-lent load-lent-def.routine code.calls-desk·lending·load-lent (load-lent-thm.met 𝓤 H 𝓜 𝓖 𝓡))
     (cited 𝓤 H (tripleOf 𝓤 H (𝓖 .A) say-wrong-F.signature (say-wrong-F.spec 𝓤 H (𝓖 .A) (𝓜 .mem) (𝓡 .run))) 𝓜 𝓡 code.env #desk·say-wrong say-wrong-def.routine code.calls-desk·lending·say-wrong (say-wrong-thm.met 𝓤 H 𝓜 𝓖 𝓡)))

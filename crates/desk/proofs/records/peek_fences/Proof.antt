@@ -51,7 +51,7 @@ use Rattle.walks.proofs.Local.{repeats, lend-array, back-array}
 use Rattle.walks.proofs.Calls.{contractOf, calls-mut, calls-shr}
 use Rattle.lines.proofs.put.begin_answer as begin-answer-F
 use Rattle.lines.proofs.put.begin_answer.Symbol as begin-answer-def
-use Rattle.lines.proofs.put.begin_answer.Symbol.{name as #desk·begin-answer}
+use Rattle.lines.proofs.put.begin_answer.Symbol.{name as #lines·begin-answer}
 use Rattle.lines.proofs.put.begin_answer.Met as begin-answer-thm
 use Rattle.index.proofs.fences.fence_at as fence-at-F
 use Rattle.index.proofs.fences.fence_at.Symbol as fence-at-def
@@ -59,11 +59,11 @@ use Rattle.index.proofs.fences.fence_at.Symbol.{name as #index·fence-at}
 use Rattle.index.proofs.fences.fence_at.Met as fence-at-thm
 use Rattle.lines.proofs.put.put_record as put-record-F
 use Rattle.lines.proofs.put.put_record.Symbol as put-record-def
-use Rattle.lines.proofs.put.put_record.Symbol.{name as #desk·put-record}
+use Rattle.lines.proofs.put.put_record.Symbol.{name as #lines·put-record}
 use Rattle.lines.proofs.put.put_record.Met as put-record-thm
 use Rattle.lines.proofs.put.end_answer as end-answer-F
 use Rattle.lines.proofs.put.end_answer.Symbol as end-answer-def
-use Rattle.lines.proofs.put.end_answer.Symbol.{name as #desk·end-answer}
+use Rattle.lines.proofs.put.end_answer.Symbol.{name as #lines·end-answer}
 use Rattle.lines.proofs.put.end_answer.Met as end-answer-thm
 use Rattle.desk.proofs.records.peek_fences.Key.{name as #desk·peek-fences}
 use Rattle.desk.proofs.records.peek_fences as peek-fences-F
@@ -109,7 +109,7 @@ module _ {M : Type 1} (𝓤 : URA M) (H : Heap 𝓤) (A : Atoms 𝓤) (W : Given
       suffices ! _ (ends-at 𝓤 H A peek-fences-F.ended stayed (peek-fences-F.clauses 𝓤 H A mem run) W bound-of vunit tt (tt, (tt, (tt, tt))) (tt, (tt, (tt, tt)))) $ empties ! $
       nothing ! $ move ! (1 ∷ 0 ∷ []) $ join ! $ frame ! $ nothing ! $ nothing ! $ fjoin ! $ nothing ! $ fjoin ! $ nothing ! $ fjoin ! $ frame ! $ feqI ! (List Val) (vunit ∷ []) (vunit ∷ []) refl $ done !
 
-  module _ (𝓣 : Tables 𝓤 H) (fm : FmC 𝓤 H (W .laws) (𝓣 .C)) (known-begin-answer : Triple 𝓤 (𝓣 .C #desk·begin-answer) (contractOf 𝓤 H A begin-answer-F.ended (begin-answer-F.clauses 𝓤 H A mem run))) (known-fence-at : Triple 𝓤 (𝓣 .C #index·fence-at) (contractOf 𝓤 H A fence-at-F.ended (fence-at-F.clauses 𝓤 H A mem run))) (known-put-record : Triple 𝓤 (𝓣 .C #desk·put-record) (contractOf 𝓤 H A put-record-F.ended (put-record-F.clauses 𝓤 H A mem run))) (known-end-answer : Triple 𝓤 (𝓣 .C #desk·end-answer) (contractOf 𝓤 H A end-answer-F.ended (end-answer-F.clauses 𝓤 H A mem run))) where
+  module _ (𝓣 : Tables 𝓤 H) (fm : FmC 𝓤 H (W .laws) (𝓣 .C)) (known-begin-answer : Triple 𝓤 (𝓣 .C #lines·begin-answer) (contractOf 𝓤 H A begin-answer-F.ended (begin-answer-F.clauses 𝓤 H A mem run))) (known-fence-at : Triple 𝓤 (𝓣 .C #index·fence-at) (contractOf 𝓤 H A fence-at-F.ended (fence-at-F.clauses 𝓤 H A mem run))) (known-put-record : Triple 𝓤 (𝓣 .C #lines·put-record) (contractOf 𝓤 H A put-record-F.ended (put-record-F.clauses 𝓤 H A mem run))) (known-end-answer : Triple 𝓤 (𝓣 .C #lines·end-answer) (contractOf 𝓤 H A end-answer-F.ended (end-answer-F.clauses 𝓤 H A mem run))) where
     walk : Room Fence-T.the-row (length fences) → from′ < 2 ^ 32 → count < 2 ^ 32 → ent 𝓤 (onEntry 𝓤 H A peek-fences-F.signature (κ₀, tt) (q₀, tt) args-of vals-of) (WpFn 𝓤 H (𝓣 .C) (𝓣 .Λ) code.function (sliceVal (b₀, o₀) (length fences) ∷ vint w32 from′ ∷ vint w32 count ∷ []) Post)
     walk room-fences fit-from′ fit-count =
         qed W ((‵ (flft κ₀ q₀) ⊛ ‵ ftrue) ∷ ‵ (owns (ShrSlice (named 0) κ₀ Fence-T.the-row ∷ u32 ∷ u32 ∷ []) args-of vals-of) ∷ []) ∵ enter ! (𝓣 .C) (𝓣 .Λ) code.function (sliceVal (b₀, o₀) (length fences) ∷ vint w32 from′ ∷ vint w32 count ∷ []) _ $
@@ -123,7 +123,7 @@ module _ {M : Type 1} (𝓤 : URA M) (H : Heap 𝓤) (A : Atoms 𝓤) (W : Given
         move ! (0 ∷ 1 ∷ 3 ∷ 4 ∷ 5 ∷ 6 ∷ 7 ∷ 8 ∷ 9 ∷ 10 ∷ 11 ∷ 12 ∷ 13 ∷ 14 ∷ 15 ∷ 16 ∷ 17 ∷ 18 ∷ 19 ∷ 20 ∷ 21 ∷ 22 ∷ 23 ∷ 24 ∷ 25 ∷ 26 ∷ 27 ∷ 28 ∷ 29 ∷ 30 ∷ 31 ∷ 32 ∷ []) $
         assigns ! (addr ! (from ! (stop !))) (from ! (stop !)) (init ! 24 refl (tt, tt)) $
         assigns ! (agg ! (and-then ! (load ! (from ! (stop !)) (look ! 24 refl)) (and-then ! (big-lit ! (record { fits = lit< tt })) (no-more !)))) (from ! (stop !)) (init ! 22 refl (tt, (tt, (record { fits = lit< tt }, tt)))) $
-        -- begin_answer
+        -- lines::put::begin_answer
         calls-mut ! fm u8 usize [] tt (begin-answer-F.clauses 𝓤 H A mem run) known-begin-answer l₄ 0 δ′₄ out 4096 n-out
         (λ κs. tt) (λ κs. tt) (λ κs. owns-make 𝓤 H A [] (Ises []) tt tt tt tt) (λ κs δ₀. tt) (λ κs δ₀. id⊢ 𝓤 _)
         (λ r1 out1. Unit {0}) (λ κs δ₀ r1 ws. factI 𝓤 (Unit {0}) (emp 𝓤) tt) (λ κs δ₀. (and-then ! (load ! (from ! (stop !)) (look ! 22 refl)) (no-more !)))
@@ -150,7 +150,7 @@ module _ {M : Type 1} (𝓤 : URA M) (H : Heap 𝓤) (A : Atoms 𝓤) (W : Given
         assigns ! (addr ! (from ! (stop !))) (from ! (stop !)) (init ! 12 refl (tt, tt)) $
         assigns ! (agg ! (and-then ! (load ! (from ! (stop !)) (look ! 12 refl)) (and-then ! (big-lit ! (record { fits = lit< tt })) (no-more !)))) (from ! (stop !)) (init ! 10 refl (tt, (tt, (record { fits = lit< tt }, tt)))) $
         move ! (2 ∷ 3 ∷ []) $
-        -- put_record
+        -- lines::put::put_record
         calls-mut ! fm u8 usize (plain (λ _. usize) ∷ plain (λ _. u32) ∷ plain (λ _. u32) ∷ []) (yes, (yes, (yes, tt))) (put-record-F.clauses 𝓤 H A mem run) known-put-record l₄ 0 δ′₄ (x .1 .1 .0) 4096 (x .1 .1 .1 .1 .1 .0)
         (λ κs. ((x .1 .0), ((r2 .place), ((r2 .first), tt)))) (λ κs. (vint w64 (x .1 .0) ∷ [], (vint w32 (r2 .place) ∷ [], (vint w32 (r2 .first) ∷ [], tt)))) (λ κs. owns-make 𝓤 H A (usize ∷ u32 ∷ u32 ∷ []) (Ises (usize ∷ u32 ∷ u32 ∷ [])) (uint-makes 𝓤 H A W w64, (uint-makes 𝓤 H A W w32, (uint-makes 𝓤 H A W w32, tt))) ((x .1 .0), ((r2 .place), ((r2 .first), tt))) (vint w64 (x .1 .0) ∷ [], (vint w32 (r2 .place) ∷ [], (vint w32 (r2 .first) ∷ [], tt))) ((refl, (x .1 .1 .1 .1 .0)), ((refl, (SL.owed Fence-T.the-type Fence-L.the-laws r2 _ (told Fence-T.the-type Fence-L.the-laws r2 _ is2) .0 .1)), ((refl, (SL.owed Fence-T.the-type Fence-L.the-laws r2 _ (told Fence-T.the-type Fence-L.the-laws r2 _ is2) .1 .0 .1)), tt)))) (λ κs δ₀. tt) (λ κs δ₀. id⊢ 𝓤 _)
         (λ r3 out3. Unit {0}) (λ κs δ₀ r3 ws. factI 𝓤 (Unit {0}) (emp 𝓤) tt) (λ κs δ₀. (and-then ! (load ! (from ! (stop !)) (look ! 10 refl)) (and-then ! (load ! (from ! (stop !)) (look ! 30 refl)) (and-then ! (load ! (from ! (fld ! refl (stop !))) (look-in ! 26 (sub ! 0 refl (whole !)))) (and-then ! (load ! (from ! (fld ! refl (stop !))) (look-in ! 26 (sub ! 1 refl (whole !)))) (no-more !))))))
@@ -164,7 +164,7 @@ module _ {M : Type 1} (𝓤 : URA M) (H : Heap 𝓤) (A : Atoms 𝓤) (W : Given
         assigns ! (addr ! (from ! (stop !))) (from ! (stop !)) (init ! 6 refl (tt, tt)) $
         assigns ! (agg ! (and-then ! (load ! (from ! (stop !)) (look ! 6 refl)) (and-then ! (big-lit ! (record { fits = lit< tt })) (no-more !)))) (from ! (stop !)) (init ! 4 refl (tt, (tt, (record { fits = lit< tt }, tt)))) $
         move ! (2 ∷ 3 ∷ []) $
-        -- end_answer
+        -- lines::put::end_answer
         calls-mut ! fm u8 NoValue (plain (λ _. usize) ∷ []) (yes, tt) (end-answer-F.clauses 𝓤 H A mem run) known-end-answer l₄ 0 δ′₄ (x .1 .1 .0) 4096 (x .1 .1 .1 .1 .1 .0)
         (λ κs. ((x .1 .0), tt)) (λ κs. (vint w64 (x .1 .0) ∷ [], tt)) (λ κs. owns-make 𝓤 H A (usize ∷ []) (Ises (usize ∷ [])) (uint-makes 𝓤 H A W w64, tt) ((x .1 .0), tt) (vint w64 (x .1 .0) ∷ [], tt) ((refl, (x .1 .1 .1 .1 .0)), tt)) (λ κs δ₀. tt) (λ κs δ₀. id⊢ 𝓤 _)
         (λ r4 out4. Unit {0}) (λ κs δ₀ r4 ws. factI 𝓤 (Unit {0}) (emp 𝓤) tt) (λ κs δ₀. (and-then ! (load ! (from ! (stop !)) (look ! 4 refl)) (and-then ! (load ! (from ! (stop !)) (look ! 30 refl)) (no-more !))))
@@ -179,12 +179,12 @@ module _ {M : Type 1} (𝓤 : URA M) (H : Heap 𝓤) (A : Atoms 𝓤) (W : Given
         by ! (exits))))) (0, (r1, (out1, (zero-le, ((is1 .1), (n-out1, tt)))))))))))))))))))))))))))
 
 module _ {M : Type 1} (𝓤 : URA M) (H : Heap 𝓤) (A : Atoms 𝓤) (W : Given 𝓤 H A) (mem : Memory → SProp 𝓤) (run : Routine → Fun 𝓤) where
-  peek-fences-walks : (𝓣 : Tables 𝓤 H) → Triple 𝓤 (𝓣 .C #desk·begin-answer) (contractOf 𝓤 H A begin-answer-F.ended (begin-answer-F.clauses 𝓤 H A mem run)) → Triple 𝓤 (𝓣 .C #index·fence-at) (contractOf 𝓤 H A fence-at-F.ended (fence-at-F.clauses 𝓤 H A mem run)) → Triple 𝓤 (𝓣 .C #desk·put-record) (contractOf 𝓤 H A put-record-F.ended (put-record-F.clauses 𝓤 H A mem run)) → Triple 𝓤 (𝓣 .C #desk·end-answer) (contractOf 𝓤 H A end-answer-F.ended (end-answer-F.clauses 𝓤 H A mem run)) → Walks 𝓤 H A peek-fences-F.ended stayed (WpFn 𝓤 H (𝓣 .C) (𝓣 .Λ) code.function) (peek-fences-F.clauses 𝓤 H A mem run)
+  peek-fences-walks : (𝓣 : Tables 𝓤 H) → Triple 𝓤 (𝓣 .C #lines·begin-answer) (contractOf 𝓤 H A begin-answer-F.ended (begin-answer-F.clauses 𝓤 H A mem run)) → Triple 𝓤 (𝓣 .C #index·fence-at) (contractOf 𝓤 H A fence-at-F.ended (fence-at-F.clauses 𝓤 H A mem run)) → Triple 𝓤 (𝓣 .C #lines·put-record) (contractOf 𝓤 H A put-record-F.ended (put-record-F.clauses 𝓤 H A mem run)) → Triple 𝓤 (𝓣 .C #lines·end-answer) (contractOf 𝓤 H A end-answer-F.ended (end-answer-F.clauses 𝓤 H A mem run)) → Walks 𝓤 H A peek-fences-F.ended stayed (WpFn 𝓤 H (𝓣 .C) (𝓣 .Λ) code.function) (peek-fences-F.clauses 𝓤 H A mem run)
   peek-fences-walks 𝓣 known-begin-answer known-fence-at known-put-record known-end-answer =
       walked 𝓤 H A peek-fences-F.ended stayed (peek-fences-F.clauses 𝓤 H A mem run) (WpFn 𝓤 H (𝓣 .C) (𝓣 .Λ) code.function) (λ κs. (slice-vals, (uint-vals w32, (uint-vals w32, tt)))) (λ κs. (shr-slice-tells (named 0) (κs .0) Fence-T.the-row, (uint-tells w32, (uint-tells w32, tt))))
       (λ κs qs bounds a g are. via 𝓤 _ (fst∗ 𝓤 _ (emp 𝓤)) (walk 𝓤 H A W mem run (κs .0) (qs .0) (a .0 .ptr .0) (a .0 .ptr .1) (a .0 .name) (a .0 .now) (a .1 .0) (a .1 .1 .0) 𝓣 (fmOf 𝓤 H (W .laws) 𝓣) known-begin-answer known-fence-at known-put-record known-end-answer (are .0 .0 .1) (are .1 .0 .1) (are .1 .1 .0 .1)))
 
-peek-fences-meets : {M : Type 1} (𝓤 : URA M) (H : Heap 𝓤) (A : Atoms 𝓤) (W : Given 𝓤 H A) (mem : Memory → SProp 𝓤) (run : Routine → Fun 𝓤) (𝓣 : Tables 𝓤 H) → Triple 𝓤 (𝓣 .C #desk·begin-answer) (contractOf 𝓤 H A begin-answer-F.ended (begin-answer-F.clauses 𝓤 H A mem run)) → Triple 𝓤 (𝓣 .C #index·fence-at) (contractOf 𝓤 H A fence-at-F.ended (fence-at-F.clauses 𝓤 H A mem run)) → Triple 𝓤 (𝓣 .C #desk·put-record) (contractOf 𝓤 H A put-record-F.ended (put-record-F.clauses 𝓤 H A mem run)) → Triple 𝓤 (𝓣 .C #desk·end-answer) (contractOf 𝓤 H A end-answer-F.ended (end-answer-F.clauses 𝓤 H A mem run)) → Meets 𝓤 H A peek-fences-F.signature (WpFn 𝓤 H (𝓣 .C) (𝓣 .Λ) code.function) (peek-fences-F.spec 𝓤 H A mem run)
+peek-fences-meets : {M : Type 1} (𝓤 : URA M) (H : Heap 𝓤) (A : Atoms 𝓤) (W : Given 𝓤 H A) (mem : Memory → SProp 𝓤) (run : Routine → Fun 𝓤) (𝓣 : Tables 𝓤 H) → Triple 𝓤 (𝓣 .C #lines·begin-answer) (contractOf 𝓤 H A begin-answer-F.ended (begin-answer-F.clauses 𝓤 H A mem run)) → Triple 𝓤 (𝓣 .C #index·fence-at) (contractOf 𝓤 H A fence-at-F.ended (fence-at-F.clauses 𝓤 H A mem run)) → Triple 𝓤 (𝓣 .C #lines·put-record) (contractOf 𝓤 H A put-record-F.ended (put-record-F.clauses 𝓤 H A mem run)) → Triple 𝓤 (𝓣 .C #lines·end-answer) (contractOf 𝓤 H A end-answer-F.ended (end-answer-F.clauses 𝓤 H A mem run)) → Meets 𝓤 H A peek-fences-F.signature (WpFn 𝓤 H (𝓣 .C) (𝓣 .Λ) code.function) (peek-fences-F.spec 𝓤 H A mem run)
 peek-fences-meets 𝓤 H A W mem run 𝓣 known-begin-answer known-fence-at known-put-record known-end-answer =
     walk-meets 𝓤 H A peek-fences-F.ended stayed W (goes-dropped 𝓤 H A W 1 (shrSliceOf (0 ∷ []) tt (plain (λ _. Fence-T.the-row))) yes (λ κs x f. refl), (goes-dropped 𝓤 H A W 1 (plain (λ _. u32)) yes (λ κs x f. refl), (goes-dropped 𝓤 H A W 1 (plain (λ _. u32)) yes (λ κs x f. refl), tt)))
     (peek-fences-F.clauses 𝓤 H A mem run) (WpFn 𝓤 H (𝓣 .C) (𝓣 .Λ) code.function) (WpFn-mono 𝓤 H (W .laws) 𝓣 code.function) (peek-fences-walks 𝓤 H A W mem run 𝓣 known-begin-answer known-fence-at known-put-record known-end-answer)
@@ -195,7 +195,7 @@ peek-fences-spec 𝓤 H 𝓜 𝓖 𝓡 =
     entered 𝓤 H (tripleOf 𝓤 H (𝓖 .A) peek-fences-F.signature (peek-fences-F.spec 𝓤 H (𝓖 .A) (𝓜 .mem) (𝓡 .run)))
     (tables 𝓤 H 𝓜 𝓡 code.env .C) (tables 𝓤 H 𝓜 𝓡 code.env .Λ) #desk·peek-fences code.function (code.unfolded 𝓤 H 𝓜 𝓡)
     (peek-fences-meets 𝓤 H (𝓖 .A) (givenOf 𝓤 H 𝓜 𝓖) (𝓜 .mem) (𝓡 .run) (tablesOf 𝓤 H 𝓜 (tables 𝓤 H 𝓜 𝓡 code.env))
-    (cited 𝓤 H (tripleOf 𝓤 H (𝓖 .A) begin-answer-F.signature (begin-answer-F.spec 𝓤 H (𝓖 .A) (𝓜 .mem) (𝓡 .run))) 𝓜 𝓡 code.env #desk·begin-answer begin-answer-def.routine code.calls-desk·put·begin-answer (begin-answer-thm.met 𝓤 H 𝓜 𝓖 𝓡))
+    (cited 𝓤 H (tripleOf 𝓤 H (𝓖 .A) begin-answer-F.signature (begin-answer-F.spec 𝓤 H (𝓖 .A) (𝓜 .mem) (𝓡 .run))) 𝓜 𝓡 code.env #lines·begin-answer begin-answer-def.routine code.calls-lines·put·begin-answer (begin-answer-thm.met 𝓤 H 𝓜 𝓖 𝓡))
     (cited 𝓤 H (tripleOf 𝓤 H (𝓖 .A) fence-at-F.signature (fence-at-F.spec 𝓤 H (𝓖 .A) (𝓜 .mem) (𝓡 .run))) 𝓜 𝓡 code.env #index·fence-at fence-at-def.routine code.calls-index·fences·fence-at (fence-at-thm.met 𝓤 H 𝓜 𝓖 𝓡))
-    (cited 𝓤 H (tripleOf 𝓤 H (𝓖 .A) put-record-F.signature (put-record-F.spec 𝓤 H (𝓖 .A) (𝓜 .mem) (𝓡 .run))) 𝓜 𝓡 code.env #desk·put-record put-record-def.routine code.calls-desk·put·put-record (put-record-thm.met 𝓤 H 𝓜 𝓖 𝓡))
-    (cited 𝓤 H (tripleOf 𝓤 H (𝓖 .A) end-answer-F.signature (end-answer-F.spec 𝓤 H (𝓖 .A) (𝓜 .mem) (𝓡 .run))) 𝓜 𝓡 code.env #desk·end-answer end-answer-def.routine code.calls-desk·put·end-answer (end-answer-thm.met 𝓤 H 𝓜 𝓖 𝓡)))
+    (cited 𝓤 H (tripleOf 𝓤 H (𝓖 .A) put-record-F.signature (put-record-F.spec 𝓤 H (𝓖 .A) (𝓜 .mem) (𝓡 .run))) 𝓜 𝓡 code.env #lines·put-record put-record-def.routine code.calls-lines·put·put-record (put-record-thm.met 𝓤 H 𝓜 𝓖 𝓡))
+    (cited 𝓤 H (tripleOf 𝓤 H (𝓖 .A) end-answer-F.signature (end-answer-F.spec 𝓤 H (𝓖 .A) (𝓜 .mem) (𝓡 .run))) 𝓜 𝓡 code.env #lines·end-answer end-answer-def.routine code.calls-lines·put·end-answer (end-answer-thm.met 𝓤 H 𝓜 𝓖 𝓡)))

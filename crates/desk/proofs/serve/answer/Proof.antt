@@ -56,7 +56,7 @@ use Rattle.walks.proofs.Flow.{told, matches, frees-all, empties}
 use Rattle.walks.proofs.Calls.{contractOf, calls-mut, calls-mut-mut, calls-mut-mut-last, calls-mut-mut-shr-last, calls-mut-shr-last, calls-shr}
 use Rattle.lines.proofs.orders.next_request as next-request-F
 use Rattle.lines.proofs.orders.next_request.Symbol as next-request-def
-use Rattle.lines.proofs.orders.next_request.Symbol.{name as #desk·next-request}
+use Rattle.lines.proofs.orders.next_request.Symbol.{name as #lines·next-request}
 use Rattle.lines.proofs.orders.next_request.Met as next-request-thm
 use Rattle.desk.proofs.lending.obey_load as obey-load-F
 use Rattle.desk.proofs.lending.obey_load.Symbol as obey-load-def
@@ -108,7 +108,7 @@ module _ {M : Type 1} (𝓤 : URA M) (H : Heap 𝓤) (A : Atoms 𝓤) (W : Given
       suffices ! _ (ends-at 𝓤 H A answer-F.ended stayed (answer-F.clauses 𝓤 H A mem run) W bound-of u r (words′, (fences′, (tt, (tt, (tt, tt))))) (n-words′, (n-fences′, (tt, (tt, (tt, tt)))))) $ empties ! $
       nothing ! $ move ! (5 ∷ 0 ∷ []) $ join ! $ move ! (3 ∷ 0 ∷ []) $ join ! $ move ! (1 ∷ 0 ∷ []) $ join ! $ frame ! $ nothing ! $ nothing ! $ fjoin ! $ nothing ! $ fjoin ! $ nothing ! $ fjoin ! $ move ! (2 ∷ 0 ∷ []) $ fjoin ! $ move ! (1 ∷ 0 ∷ []) $ fjoin ! $ frame ! $ owned ! Lent-T.the-row (Is Lent-T.the-row) (SL.makes Lent-T.the-type Lent-L.the-plain 𝓤 H A) r _ is $ done !
 
-  module _ (𝓣 : Tables 𝓤 H) (fm : FmC 𝓤 H (W .laws) (𝓣 .C)) (known-next-request : Triple 𝓤 (𝓣 .C #desk·next-request) (contractOf 𝓤 H A next-request-F.ended (next-request-F.clauses 𝓤 H A mem run))) (known-obey-load : Triple 𝓤 (𝓣 .C #desk·obey-load) (contractOf 𝓤 H A obey-load-F.ended (obey-load-F.clauses 𝓤 H A mem run))) (known-obey-change : Triple 𝓤 (𝓣 .C #desk·obey-change) (contractOf 𝓤 H A obey-change-F.ended (obey-change-F.clauses 𝓤 H A mem run))) (known-obey-question : Triple 𝓤 (𝓣 .C #desk·obey-question) (contractOf 𝓤 H A obey-question-F.ended (obey-question-F.clauses 𝓤 H A mem run))) (known-obey-records : Triple 𝓤 (𝓣 .C #desk·obey-records) (contractOf 𝓤 H A obey-records-F.ended (obey-records-F.clauses 𝓤 H A mem run))) (known-obey-other : Triple 𝓤 (𝓣 .C #desk·obey-other) (contractOf 𝓤 H A obey-other-F.ended (obey-other-F.clauses 𝓤 H A mem run))) where
+  module _ (𝓣 : Tables 𝓤 H) (fm : FmC 𝓤 H (W .laws) (𝓣 .C)) (known-next-request : Triple 𝓤 (𝓣 .C #lines·next-request) (contractOf 𝓤 H A next-request-F.ended (next-request-F.clauses 𝓤 H A mem run))) (known-obey-load : Triple 𝓤 (𝓣 .C #desk·obey-load) (contractOf 𝓤 H A obey-load-F.ended (obey-load-F.clauses 𝓤 H A mem run))) (known-obey-change : Triple 𝓤 (𝓣 .C #desk·obey-change) (contractOf 𝓤 H A obey-change-F.ended (obey-change-F.clauses 𝓤 H A mem run))) (known-obey-question : Triple 𝓤 (𝓣 .C #desk·obey-question) (contractOf 𝓤 H A obey-question-F.ended (obey-question-F.clauses 𝓤 H A mem run))) (known-obey-records : Triple 𝓤 (𝓣 .C #desk·obey-records) (contractOf 𝓤 H A obey-records-F.ended (obey-records-F.clauses 𝓤 H A mem run))) (known-obey-other : Triple 𝓤 (𝓣 .C #desk·obey-other) (contractOf 𝓤 H A obey-other-F.ended (obey-other-F.clauses 𝓤 H A mem run))) where
     walk : Room u32 (length words) → Room Fence-T.the-row (length fences) → Room u8 (length input) → Is Waiting-T.the-row waiting (SL.vals Waiting-T.the-type Waiting-L.the-laws waiting) → Is Lent-T.the-row lent (SL.vals Lent-T.the-type Lent-L.the-laws lent) → ent 𝓤 (onEntry 𝓤 H A answer-F.signature (κ₀, (κ₁, (κ₂, tt))) (q₀, (q₁, (q₂, tt))) args-of vals-of) (WpFn 𝓤 H (𝓣 .C) (𝓣 .Λ) code.function (sliceVal (b₀, o₀) (length words) ∷ sliceVal (b₁, o₁) (length fences) ∷ sliceVal (b₂, o₂) (length input) ∷ SL.val Waiting-T.the-type Waiting-L.the-laws waiting ∷ SL.val Lent-T.the-type Lent-L.the-laws lent ∷ []) Post)
     walk room-words room-fences room-input is-waiting is-lent =
         qed W ((‵ (flft κ₀ q₀) ⊛ (‵ (flft κ₁ q₁) ⊛ (‵ (flft κ₂ q₂) ⊛ ‵ ftrue))) ∷ ‵ (owns (MutSlice (named 0) κ₀ u32 ∷ MutSlice (named 1) κ₁ Fence-T.the-row ∷ ShrSlice (named 2) κ₂ u8 ∷ Waiting-T.the-row ∷ Lent-T.the-row ∷ []) args-of vals-of) ∷ []) ∵ enter ! (𝓣 .C) (𝓣 .Λ) code.function (sliceVal (b₀, o₀) (length words) ∷ sliceVal (b₁, o₁) (length fences) ∷ sliceVal (b₂, o₂) (length input) ∷ SL.val Waiting-T.the-type Waiting-L.the-laws waiting ∷ SL.val Lent-T.the-type Lent-L.the-laws lent ∷ []) _ $
@@ -117,7 +117,7 @@ module _ {M : Type 1} (𝓤 : URA M) (H : Heap 𝓤) (A : Atoms 𝓤) (W : Given
         move ! (63 ∷ []) $ fsplit ! $ move ! (1 ∷ []) $ fsplit ! $ move ! (1 ∷ []) $ fsplit ! $ move ! (1 ∷ []) $ fsplit ! $ drop ! $ fsplit ! $ drop ! $ drop ! $ move ! (65 ∷ []) $ split ! $ move ! (1 ∷ []) $ split ! $ move ! (1 ∷ []) $ split ! $ move ! (1 ∷ []) $ drop ! $ move ! (2 ∷ 5 ∷ 1 ∷ 4 ∷ 0 ∷ 3 ∷ []) $
         -- [words's token; words; fences's token; fences; input's token; input; _30; …; _0; …]
         move ! (4 ∷ 5 ∷ []) $
-        -- next_request
+        -- lines::orders::next_request
         calls-shr ! fm u8 Request-T.the-row (plain (λ _. Waiting-T.the-row) ∷ []) (yes, tt) (next-request-F.clauses 𝓤 H A mem run) known-next-request b₂ o₂ γ₂ input (length input) refl
         (λ κs. (waiting, tt)) (λ κs. (SL.val Waiting-T.the-type Waiting-L.the-laws waiting ∷ [], tt)) (λ κs. owns-make 𝓤 H A (Waiting-T.the-row ∷ []) (Ises (Waiting-T.the-row ∷ [])) (SL.makes Waiting-T.the-type Waiting-L.the-plain 𝓤 H A, tt) (waiting, tt) (SL.val Waiting-T.the-type Waiting-L.the-laws waiting ∷ [], tt) (is-waiting, tt)) (λ κs δ₀. tt) (λ κs δ₀. id⊢ 𝓤 _)
         (λ r1. Unit {0}) (λ κs δ₀ r1 ws. factI 𝓤 (Unit {0}) (emp 𝓤) tt) (λ κs δ₀. (and-then ! (load ! (from ! (stop !)) (look ! 60 refl)) (and-then ! (load ! (from ! (stop !)) (look ! 58 refl)) (no-more !))))
@@ -235,12 +235,12 @@ module _ {M : Type 1} (𝓤 : URA M) (H : Heap 𝓤) (A : Atoms 𝓤) (W : Given
         ]))))))))))))))))))))))))))))))))
 
 module _ {M : Type 1} (𝓤 : URA M) (H : Heap 𝓤) (A : Atoms 𝓤) (W : Given 𝓤 H A) (mem : Memory → SProp 𝓤) (run : Routine → Fun 𝓤) where
-  answer-walks : (𝓣 : Tables 𝓤 H) → Triple 𝓤 (𝓣 .C #desk·next-request) (contractOf 𝓤 H A next-request-F.ended (next-request-F.clauses 𝓤 H A mem run)) → Triple 𝓤 (𝓣 .C #desk·obey-load) (contractOf 𝓤 H A obey-load-F.ended (obey-load-F.clauses 𝓤 H A mem run)) → Triple 𝓤 (𝓣 .C #desk·obey-change) (contractOf 𝓤 H A obey-change-F.ended (obey-change-F.clauses 𝓤 H A mem run)) → Triple 𝓤 (𝓣 .C #desk·obey-question) (contractOf 𝓤 H A obey-question-F.ended (obey-question-F.clauses 𝓤 H A mem run)) → Triple 𝓤 (𝓣 .C #desk·obey-records) (contractOf 𝓤 H A obey-records-F.ended (obey-records-F.clauses 𝓤 H A mem run)) → Triple 𝓤 (𝓣 .C #desk·obey-other) (contractOf 𝓤 H A obey-other-F.ended (obey-other-F.clauses 𝓤 H A mem run)) → Walks 𝓤 H A answer-F.ended stayed (WpFn 𝓤 H (𝓣 .C) (𝓣 .Λ) code.function) (answer-F.clauses 𝓤 H A mem run)
+  answer-walks : (𝓣 : Tables 𝓤 H) → Triple 𝓤 (𝓣 .C #lines·next-request) (contractOf 𝓤 H A next-request-F.ended (next-request-F.clauses 𝓤 H A mem run)) → Triple 𝓤 (𝓣 .C #desk·obey-load) (contractOf 𝓤 H A obey-load-F.ended (obey-load-F.clauses 𝓤 H A mem run)) → Triple 𝓤 (𝓣 .C #desk·obey-change) (contractOf 𝓤 H A obey-change-F.ended (obey-change-F.clauses 𝓤 H A mem run)) → Triple 𝓤 (𝓣 .C #desk·obey-question) (contractOf 𝓤 H A obey-question-F.ended (obey-question-F.clauses 𝓤 H A mem run)) → Triple 𝓤 (𝓣 .C #desk·obey-records) (contractOf 𝓤 H A obey-records-F.ended (obey-records-F.clauses 𝓤 H A mem run)) → Triple 𝓤 (𝓣 .C #desk·obey-other) (contractOf 𝓤 H A obey-other-F.ended (obey-other-F.clauses 𝓤 H A mem run)) → Walks 𝓤 H A answer-F.ended stayed (WpFn 𝓤 H (𝓣 .C) (𝓣 .Λ) code.function) (answer-F.clauses 𝓤 H A mem run)
   answer-walks 𝓣 known-next-request known-obey-load known-obey-change known-obey-question known-obey-records known-obey-other =
       walked 𝓤 H A answer-F.ended stayed (answer-F.clauses 𝓤 H A mem run) (WpFn 𝓤 H (𝓣 .C) (𝓣 .Λ) code.function) (λ κs. (slice-vals, (slice-vals, (slice-vals, (SL.vals Waiting-T.the-type Waiting-L.the-laws, (SL.vals Lent-T.the-type Lent-L.the-laws, tt)))))) (λ κs. (mut-slice-tells (named 0) (κs .0) u32, (mut-slice-tells (named 1) (κs .1 .0) Fence-T.the-row, (shr-slice-tells (named 2) (κs .1 .1 .0) u8, (SL.tells Waiting-T.the-type Waiting-L.the-laws, (SL.tells Lent-T.the-type Lent-L.the-laws, tt))))))
       (λ κs qs bounds a g are. via 𝓤 _ (fst∗ 𝓤 _ (emp 𝓤)) (walk 𝓤 H A W mem run (κs .0) (κs .1 .0) (κs .1 .1 .0) (qs .0) (qs .1 .0) (qs .1 .1 .0) (a .0 .ptr .0) (a .0 .ptr .1) (a .0 .name) (a .0 .now) (a .1 .0 .ptr .0) (a .1 .0 .ptr .1) (a .1 .0 .name) (a .1 .0 .now) (a .1 .1 .0 .ptr .0) (a .1 .1 .0 .ptr .1) (a .1 .1 .0 .name) (a .1 .1 .0 .now) (a .1 .1 .1 .0) (a .1 .1 .1 .1 .0) 𝓣 (fmOf 𝓤 H (W .laws) 𝓣) known-next-request known-obey-load known-obey-change known-obey-question known-obey-records known-obey-other (are .0 .0 .1) (are .1 .0 .0 .1) (are .1 .1 .0 .0 .1) (are .1 .1 .1 .0) (are .1 .1 .1 .1 .0)))
 
-answer-meets : {M : Type 1} (𝓤 : URA M) (H : Heap 𝓤) (A : Atoms 𝓤) (W : Given 𝓤 H A) (mem : Memory → SProp 𝓤) (run : Routine → Fun 𝓤) (𝓣 : Tables 𝓤 H) → Triple 𝓤 (𝓣 .C #desk·next-request) (contractOf 𝓤 H A next-request-F.ended (next-request-F.clauses 𝓤 H A mem run)) → Triple 𝓤 (𝓣 .C #desk·obey-load) (contractOf 𝓤 H A obey-load-F.ended (obey-load-F.clauses 𝓤 H A mem run)) → Triple 𝓤 (𝓣 .C #desk·obey-change) (contractOf 𝓤 H A obey-change-F.ended (obey-change-F.clauses 𝓤 H A mem run)) → Triple 𝓤 (𝓣 .C #desk·obey-question) (contractOf 𝓤 H A obey-question-F.ended (obey-question-F.clauses 𝓤 H A mem run)) → Triple 𝓤 (𝓣 .C #desk·obey-records) (contractOf 𝓤 H A obey-records-F.ended (obey-records-F.clauses 𝓤 H A mem run)) → Triple 𝓤 (𝓣 .C #desk·obey-other) (contractOf 𝓤 H A obey-other-F.ended (obey-other-F.clauses 𝓤 H A mem run)) → Meets 𝓤 H A answer-F.signature (WpFn 𝓤 H (𝓣 .C) (𝓣 .Λ) code.function) (answer-F.spec 𝓤 H A mem run)
+answer-meets : {M : Type 1} (𝓤 : URA M) (H : Heap 𝓤) (A : Atoms 𝓤) (W : Given 𝓤 H A) (mem : Memory → SProp 𝓤) (run : Routine → Fun 𝓤) (𝓣 : Tables 𝓤 H) → Triple 𝓤 (𝓣 .C #lines·next-request) (contractOf 𝓤 H A next-request-F.ended (next-request-F.clauses 𝓤 H A mem run)) → Triple 𝓤 (𝓣 .C #desk·obey-load) (contractOf 𝓤 H A obey-load-F.ended (obey-load-F.clauses 𝓤 H A mem run)) → Triple 𝓤 (𝓣 .C #desk·obey-change) (contractOf 𝓤 H A obey-change-F.ended (obey-change-F.clauses 𝓤 H A mem run)) → Triple 𝓤 (𝓣 .C #desk·obey-question) (contractOf 𝓤 H A obey-question-F.ended (obey-question-F.clauses 𝓤 H A mem run)) → Triple 𝓤 (𝓣 .C #desk·obey-records) (contractOf 𝓤 H A obey-records-F.ended (obey-records-F.clauses 𝓤 H A mem run)) → Triple 𝓤 (𝓣 .C #desk·obey-other) (contractOf 𝓤 H A obey-other-F.ended (obey-other-F.clauses 𝓤 H A mem run)) → Meets 𝓤 H A answer-F.signature (WpFn 𝓤 H (𝓣 .C) (𝓣 .Λ) code.function) (answer-F.spec 𝓤 H A mem run)
 answer-meets 𝓤 H A W mem run 𝓣 known-next-request known-obey-load known-obey-change known-obey-question known-obey-records known-obey-other =
     walk-meets 𝓤 H A answer-F.ended stayed W (goes-slice 𝓤 H A W 3 0 tt (plain (λ _. u32)), (goes-slice 𝓤 H A W 3 1 tt (plain (λ _. Fence-T.the-row)), (goes-dropped 𝓤 H A W 3 (shrSliceOf (2 ∷ []) tt (plain (λ _. u8))) yes (λ κs x f. refl), (goes-dropped 𝓤 H A W 3 (plain (λ _. Waiting-T.the-row)) yes (λ κs x f. refl), (goes-dropped 𝓤 H A W 3 (plain (λ _. Lent-T.the-row)) yes (λ κs x f. refl), tt)))))
     (answer-F.clauses 𝓤 H A mem run) (WpFn 𝓤 H (𝓣 .C) (𝓣 .Λ) code.function) (WpFn-mono 𝓤 H (W .laws) 𝓣 code.function) (answer-walks 𝓤 H A W mem run 𝓣 known-next-request known-obey-load known-obey-change known-obey-question known-obey-records known-obey-other)
@@ -251,7 +251,7 @@ answer-spec 𝓤 H 𝓜 𝓖 𝓡 =
     entered 𝓤 H (tripleOf 𝓤 H (𝓖 .A) answer-F.signature (answer-F.spec 𝓤 H (𝓖 .A) (𝓜 .mem) (𝓡 .run)))
     (tables 𝓤 H 𝓜 𝓡 code.env .C) (tables 𝓤 H 𝓜 𝓡 code.env .Λ) #desk·answer code.function (code.unfolded 𝓤 H 𝓜 𝓡)
     (answer-meets 𝓤 H (𝓖 .A) (givenOf 𝓤 H 𝓜 𝓖) (𝓜 .mem) (𝓡 .run) (tablesOf 𝓤 H 𝓜 (tables 𝓤 H 𝓜 𝓡 code.env))
-    (cited 𝓤 H (tripleOf 𝓤 H (𝓖 .A) next-request-F.signature (next-request-F.spec 𝓤 H (𝓖 .A) (𝓜 .mem) (𝓡 .run))) 𝓜 𝓡 code.env #desk·next-request next-request-def.routine code.calls-desk·orders·next-request (next-request-thm.met 𝓤 H 𝓜 𝓖 𝓡))
+    (cited 𝓤 H (tripleOf 𝓤 H (𝓖 .A) next-request-F.signature (next-request-F.spec 𝓤 H (𝓖 .A) (𝓜 .mem) (𝓡 .run))) 𝓜 𝓡 code.env #lines·next-request next-request-def.routine code.calls-lines·orders·next-request (next-request-thm.met 𝓤 H 𝓜 𝓖 𝓡))
     (cited 𝓤 H (tripleOf 𝓤 H (𝓖 .A) obey-load-F.signature (obey-load-F.spec 𝓤 H (𝓖 .A) (𝓜 .mem) (𝓡 .run))) 𝓜 𝓡 code.env #desk·obey-load obey-load-def.routine code.calls-desk·lending·obey-load (obey-load-thm.met 𝓤 H 𝓜 𝓖 𝓡))
     (cited 𝓤 H (tripleOf 𝓤 H (𝓖 .A) obey-change-F.signature (obey-change-F.spec 𝓤 H (𝓖 .A) (𝓜 .mem) (𝓡 .run))) 𝓜 𝓡 code.env #desk·obey-change obey-change-def.routine code.calls-desk·lending·obey-change (obey-change-thm.met 𝓤 H 𝓜 𝓖 𝓡))
     (cited 𝓤 H (tripleOf 𝓤 H (𝓖 .A) obey-question-F.signature (obey-question-F.spec 𝓤 H (𝓖 .A) (𝓜 .mem) (𝓡 .run))) 𝓜 𝓡 code.env #desk·obey-question obey-question-def.routine code.calls-desk·lending·obey-question (obey-question-thm.met 𝓤 H 𝓜 𝓖 𝓡))

@@ -49,7 +49,7 @@ use Rattle.walks.proofs.Flow.{told, frees-all, empties}
 use Rattle.walks.proofs.Calls.{contractOf, calls-mut, calls-mut-mut-view, calls-plain}
 use Rattle.lines.proofs.input.look_on as look-on-F
 use Rattle.lines.proofs.input.look_on.Symbol as look-on-def
-use Rattle.lines.proofs.input.look_on.Symbol.{name as #desk·look-on}
+use Rattle.lines.proofs.input.look_on.Symbol.{name as #lines·look-on}
 use Rattle.lines.proofs.input.look_on.Met as look-on-thm
 use Rattle.desk.proofs.serve.answer as answer-F
 use Rattle.desk.proofs.serve.answer.Symbol as answer-def
@@ -89,7 +89,7 @@ module _ {M : Type 1} (𝓤 : URA M) (H : Heap 𝓤) (A : Atoms 𝓤) (W : Given
       suffices ! _ (ends-at 𝓤 H A take-turn-F.ended stayed (take-turn-F.clauses 𝓤 H A mem run) W bound-of u r (words′, (fences′, (input′, (tt, tt)))) (n-words′, (n-fences′, (n-input′, (tt, tt))))) $ empties ! $
       nothing ! $ move ! (5 ∷ 0 ∷ []) $ join ! $ move ! (3 ∷ 0 ∷ []) $ join ! $ move ! (1 ∷ 0 ∷ []) $ join ! $ frame ! $ nothing ! $ nothing ! $ fjoin ! $ move ! (3 ∷ 0 ∷ []) $ fjoin ! $ move ! (2 ∷ 0 ∷ []) $ fjoin ! $ move ! (1 ∷ 0 ∷ []) $ fjoin ! $ frame ! $ owned ! Console-T.the-row (Is Console-T.the-row) (SL.makes Console-T.the-type Console-L.the-plain 𝓤 H A) r _ is $ done !
 
-  module _ (𝓣 : Tables 𝓤 H) (fm : FmC 𝓤 H (W .laws) (𝓣 .C)) (known-look-on : Triple 𝓤 (𝓣 .C #desk·look-on) (contractOf 𝓤 H A look-on-F.ended (look-on-F.clauses 𝓤 H A mem run))) (known-answer : Triple 𝓤 (𝓣 .C #desk·answer) (contractOf 𝓤 H A answer-F.ended (answer-F.clauses 𝓤 H A mem run))) (known-after-turn : Triple 𝓤 (𝓣 .C #desk·after-turn) (contractOf 𝓤 H A after-turn-F.ended (after-turn-F.clauses 𝓤 H A mem run))) where
+  module _ (𝓣 : Tables 𝓤 H) (fm : FmC 𝓤 H (W .laws) (𝓣 .C)) (known-look-on : Triple 𝓤 (𝓣 .C #lines·look-on) (contractOf 𝓤 H A look-on-F.ended (look-on-F.clauses 𝓤 H A mem run))) (known-answer : Triple 𝓤 (𝓣 .C #desk·answer) (contractOf 𝓤 H A answer-F.ended (answer-F.clauses 𝓤 H A mem run))) (known-after-turn : Triple 𝓤 (𝓣 .C #desk·after-turn) (contractOf 𝓤 H A after-turn-F.ended (after-turn-F.clauses 𝓤 H A mem run))) where
     walk : Room u32 (length words) → Room Fence-T.the-row (length fences) → Room u8 (length input) → Is Console-T.the-row console (SL.vals Console-T.the-type Console-L.the-laws console) → ent 𝓤 (onEntry 𝓤 H A take-turn-F.signature (κ₀, (κ₁, (κ₂, tt))) (q₀, (q₁, (q₂, tt))) args-of vals-of) (WpFn 𝓤 H (𝓣 .C) (𝓣 .Λ) code.function (sliceVal (b₀, o₀) (length words) ∷ sliceVal (b₁, o₁) (length fences) ∷ sliceVal (b₂, o₂) (length input) ∷ SL.val Console-T.the-type Console-L.the-laws console ∷ []) Post)
     walk room-words room-fences room-input is-console =
         qed W ((‵ (flft κ₀ q₀) ⊛ (‵ (flft κ₁ q₁) ⊛ (‵ (flft κ₂ q₂) ⊛ ‵ ftrue))) ∷ ‵ (owns (MutSlice (named 0) κ₀ u32 ∷ MutSlice (named 1) κ₁ Fence-T.the-row ∷ MutSlice (named 2) κ₂ u8 ∷ Console-T.the-row ∷ []) args-of vals-of) ∷ []) ∵ enter ! (𝓣 .C) (𝓣 .Λ) code.function (sliceVal (b₀, o₀) (length words) ∷ sliceVal (b₁, o₁) (length fences) ∷ sliceVal (b₂, o₂) (length input) ∷ SL.val Console-T.the-type Console-L.the-laws console ∷ []) _ $
@@ -100,7 +100,7 @@ module _ {M : Type 1} (𝓤 : URA M) (H : Heap 𝓤) (A : Atoms 𝓤) (W : Given
         assigns ! (addr ! (from ! (fld ! refl (hop ! (look-in ! 28 (sub ! 0 refl (whole !))) (stop !))))) (from ! (stop !)) (init ! 20 refl (tt, tt)) $
         assigns ! (agg ! (and-then ! (load ! (from ! (stop !)) (look ! 20 refl)) (and-then ! (load ! (from ! (fld ! refl (stop !))) (look-in ! 28 (sub ! 1 refl (whole !)))) (no-more !)))) (from ! (stop !)) (init ! 18 refl (tt, (tt, (record { fits = room-input .0 }, tt)))) $
         move ! (4 ∷ 5 ∷ []) $
-        -- look_on
+        -- lines::input::look_on
         calls-mut ! fm u8 Waiting-T.the-row (plain (λ _. Waiting-T.the-row) ∷ []) (yes, tt) (look-on-F.clauses 𝓤 H A mem run) known-look-on b₂ o₂ γ₂ input (length input) refl
         (λ κs. ((console .waiting), tt)) (λ κs. (SL.val Waiting-T.the-type Waiting-L.the-laws (console .waiting) ∷ [], tt)) (λ κs. owns-make 𝓤 H A (Waiting-T.the-row ∷ []) (Ises (Waiting-T.the-row ∷ [])) (SL.makes Waiting-T.the-type Waiting-L.the-plain 𝓤 H A, tt) ((console .waiting), tt) (SL.val Waiting-T.the-type Waiting-L.the-laws (console .waiting) ∷ [], tt) ((SL.owed Console-T.the-type Console-L.the-laws console _ is-console .0), tt)) (λ κs δ₀. tt) (λ κs δ₀. id⊢ 𝓤 _)
         (λ r1 input1. Unit {0}) (λ κs δ₀ r1 ws. factI 𝓤 (Unit {0}) (emp 𝓤) tt) (λ κs δ₀. (and-then ! (load ! (from ! (stop !)) (look ! 18 refl)) (and-then ! (load ! (from ! (fld ! refl (stop !))) (look-in ! 26 (sub ! 0 refl (whole !)))) (no-more !))))
@@ -130,12 +130,12 @@ module _ {M : Type 1} (𝓤 : URA M) (H : Heap 𝓤) (A : Atoms 𝓤) (W : Given
         by ! (exits (SL.val Console-T.the-type Console-L.the-laws r3) r3 words2 fences2 input1 n-words2 n-fences2 n-input1 (told Console-T.the-type Console-L.the-laws r3 _ is3))))))))))))))))))))
 
 module _ {M : Type 1} (𝓤 : URA M) (H : Heap 𝓤) (A : Atoms 𝓤) (W : Given 𝓤 H A) (mem : Memory → SProp 𝓤) (run : Routine → Fun 𝓤) where
-  take-turn-walks : (𝓣 : Tables 𝓤 H) → Triple 𝓤 (𝓣 .C #desk·look-on) (contractOf 𝓤 H A look-on-F.ended (look-on-F.clauses 𝓤 H A mem run)) → Triple 𝓤 (𝓣 .C #desk·answer) (contractOf 𝓤 H A answer-F.ended (answer-F.clauses 𝓤 H A mem run)) → Triple 𝓤 (𝓣 .C #desk·after-turn) (contractOf 𝓤 H A after-turn-F.ended (after-turn-F.clauses 𝓤 H A mem run)) → Walks 𝓤 H A take-turn-F.ended stayed (WpFn 𝓤 H (𝓣 .C) (𝓣 .Λ) code.function) (take-turn-F.clauses 𝓤 H A mem run)
+  take-turn-walks : (𝓣 : Tables 𝓤 H) → Triple 𝓤 (𝓣 .C #lines·look-on) (contractOf 𝓤 H A look-on-F.ended (look-on-F.clauses 𝓤 H A mem run)) → Triple 𝓤 (𝓣 .C #desk·answer) (contractOf 𝓤 H A answer-F.ended (answer-F.clauses 𝓤 H A mem run)) → Triple 𝓤 (𝓣 .C #desk·after-turn) (contractOf 𝓤 H A after-turn-F.ended (after-turn-F.clauses 𝓤 H A mem run)) → Walks 𝓤 H A take-turn-F.ended stayed (WpFn 𝓤 H (𝓣 .C) (𝓣 .Λ) code.function) (take-turn-F.clauses 𝓤 H A mem run)
   take-turn-walks 𝓣 known-look-on known-answer known-after-turn =
       walked 𝓤 H A take-turn-F.ended stayed (take-turn-F.clauses 𝓤 H A mem run) (WpFn 𝓤 H (𝓣 .C) (𝓣 .Λ) code.function) (λ κs. (slice-vals, (slice-vals, (slice-vals, (SL.vals Console-T.the-type Console-L.the-laws, tt))))) (λ κs. (mut-slice-tells (named 0) (κs .0) u32, (mut-slice-tells (named 1) (κs .1 .0) Fence-T.the-row, (mut-slice-tells (named 2) (κs .1 .1 .0) u8, (SL.tells Console-T.the-type Console-L.the-laws, tt)))))
       (λ κs qs bounds a g are. via 𝓤 _ (fst∗ 𝓤 _ (emp 𝓤)) (walk 𝓤 H A W mem run (κs .0) (κs .1 .0) (κs .1 .1 .0) (qs .0) (qs .1 .0) (qs .1 .1 .0) (a .0 .ptr .0) (a .0 .ptr .1) (a .0 .name) (a .0 .now) (a .1 .0 .ptr .0) (a .1 .0 .ptr .1) (a .1 .0 .name) (a .1 .0 .now) (a .1 .1 .0 .ptr .0) (a .1 .1 .0 .ptr .1) (a .1 .1 .0 .name) (a .1 .1 .0 .now) (a .1 .1 .1 .0) 𝓣 (fmOf 𝓤 H (W .laws) 𝓣) known-look-on known-answer known-after-turn (are .0 .0 .1) (are .1 .0 .0 .1) (are .1 .1 .0 .0 .1) (are .1 .1 .1 .0)))
 
-take-turn-meets : {M : Type 1} (𝓤 : URA M) (H : Heap 𝓤) (A : Atoms 𝓤) (W : Given 𝓤 H A) (mem : Memory → SProp 𝓤) (run : Routine → Fun 𝓤) (𝓣 : Tables 𝓤 H) → Triple 𝓤 (𝓣 .C #desk·look-on) (contractOf 𝓤 H A look-on-F.ended (look-on-F.clauses 𝓤 H A mem run)) → Triple 𝓤 (𝓣 .C #desk·answer) (contractOf 𝓤 H A answer-F.ended (answer-F.clauses 𝓤 H A mem run)) → Triple 𝓤 (𝓣 .C #desk·after-turn) (contractOf 𝓤 H A after-turn-F.ended (after-turn-F.clauses 𝓤 H A mem run)) → Meets 𝓤 H A take-turn-F.signature (WpFn 𝓤 H (𝓣 .C) (𝓣 .Λ) code.function) (take-turn-F.spec 𝓤 H A mem run)
+take-turn-meets : {M : Type 1} (𝓤 : URA M) (H : Heap 𝓤) (A : Atoms 𝓤) (W : Given 𝓤 H A) (mem : Memory → SProp 𝓤) (run : Routine → Fun 𝓤) (𝓣 : Tables 𝓤 H) → Triple 𝓤 (𝓣 .C #lines·look-on) (contractOf 𝓤 H A look-on-F.ended (look-on-F.clauses 𝓤 H A mem run)) → Triple 𝓤 (𝓣 .C #desk·answer) (contractOf 𝓤 H A answer-F.ended (answer-F.clauses 𝓤 H A mem run)) → Triple 𝓤 (𝓣 .C #desk·after-turn) (contractOf 𝓤 H A after-turn-F.ended (after-turn-F.clauses 𝓤 H A mem run)) → Meets 𝓤 H A take-turn-F.signature (WpFn 𝓤 H (𝓣 .C) (𝓣 .Λ) code.function) (take-turn-F.spec 𝓤 H A mem run)
 take-turn-meets 𝓤 H A W mem run 𝓣 known-look-on known-answer known-after-turn =
     walk-meets 𝓤 H A take-turn-F.ended stayed W (goes-slice 𝓤 H A W 3 0 tt (plain (λ _. u32)), (goes-slice 𝓤 H A W 3 1 tt (plain (λ _. Fence-T.the-row)), (goes-slice 𝓤 H A W 3 2 tt (plain (λ _. u8)), (goes-dropped 𝓤 H A W 3 (plain (λ _. Console-T.the-row)) yes (λ κs x f. refl), tt))))
     (take-turn-F.clauses 𝓤 H A mem run) (WpFn 𝓤 H (𝓣 .C) (𝓣 .Λ) code.function) (WpFn-mono 𝓤 H (W .laws) 𝓣 code.function) (take-turn-walks 𝓤 H A W mem run 𝓣 known-look-on known-answer known-after-turn)
@@ -146,6 +146,6 @@ take-turn-spec 𝓤 H 𝓜 𝓖 𝓡 =
     entered 𝓤 H (tripleOf 𝓤 H (𝓖 .A) take-turn-F.signature (take-turn-F.spec 𝓤 H (𝓖 .A) (𝓜 .mem) (𝓡 .run)))
     (tables 𝓤 H 𝓜 𝓡 code.env .C) (tables 𝓤 H 𝓜 𝓡 code.env .Λ) #desk·take-turn code.function (code.unfolded 𝓤 H 𝓜 𝓡)
     (take-turn-meets 𝓤 H (𝓖 .A) (givenOf 𝓤 H 𝓜 𝓖) (𝓜 .mem) (𝓡 .run) (tablesOf 𝓤 H 𝓜 (tables 𝓤 H 𝓜 𝓡 code.env))
-    (cited 𝓤 H (tripleOf 𝓤 H (𝓖 .A) look-on-F.signature (look-on-F.spec 𝓤 H (𝓖 .A) (𝓜 .mem) (𝓡 .run))) 𝓜 𝓡 code.env #desk·look-on look-on-def.routine code.calls-desk·input·look-on (look-on-thm.met 𝓤 H 𝓜 𝓖 𝓡))
+    (cited 𝓤 H (tripleOf 𝓤 H (𝓖 .A) look-on-F.signature (look-on-F.spec 𝓤 H (𝓖 .A) (𝓜 .mem) (𝓡 .run))) 𝓜 𝓡 code.env #lines·look-on look-on-def.routine code.calls-lines·input·look-on (look-on-thm.met 𝓤 H 𝓜 𝓖 𝓡))
     (cited 𝓤 H (tripleOf 𝓤 H (𝓖 .A) answer-F.signature (answer-F.spec 𝓤 H (𝓖 .A) (𝓜 .mem) (𝓡 .run))) 𝓜 𝓡 code.env #desk·answer answer-def.routine code.calls-desk·serve·answer (answer-thm.met 𝓤 H 𝓜 𝓖 𝓡))
     (cited 𝓤 H (tripleOf 𝓤 H (𝓖 .A) after-turn-F.signature (after-turn-F.spec 𝓤 H (𝓖 .A) (𝓜 .mem) (𝓡 .run))) 𝓜 𝓡 code.env #desk·after-turn after-turn-def.routine code.calls-desk·serve·after-turn (after-turn-thm.met 𝓤 H 𝓜 𝓖 𝓡)))
