@@ -13,7 +13,8 @@
  *
  * Nothing is allocated, nothing is kept between calls, and there is no global state: an index is the
  * header, the words and the fences, and all three are the caller's. They may be copied, moved, stored
- * and lent again. A call may be made from any thread.
+ * and lent again. A call may be made from any thread. It takes up to 24 KB of stack, upbit_audit 40 KB and
+ * upbit_dump 130 KB.
  *
  * Link with libabi.a (`rt staticlib abi`, for x86-64); of other libraries it needs C's memcpy and memset alone.
  */
@@ -32,7 +33,7 @@ extern "C" {
 enum {
     UPBIT_OK = 0,         /* done */
     UPBIT_BAD_HEADER = 1, /* a header number is outside its limits */
-    UPBIT_SMALL = 2,      /* fewer words or fences lent than upbit_room says */
+    UPBIT_SMALL = 2,      /* fewer words or fences lent than upbit_room_for says */
     UPBIT_BAD_VALUE = 3,  /* a value that is not below `values`; for load a byte that is neither that nor 255; for pack a byte above 1 */
     UPBIT_NO_ROW = 4,     /* a row that is not below `issued` */
     UPBIT_FULL = 5,       /* an insert into a full index; a load of more than `rows` bytes; pack or unpack of more than 126,976 rows */
@@ -170,7 +171,7 @@ upbit_answer upbit_query(const uint32_t *words, size_t words_length, const upbit
 
 /*
  * Writes the column: for each row issued the byte of its value, or UPBIT_DELETED; the count is the number of rows.
- * Cost: each word of the index is opened about once. It takes 126,976 bytes of stack.
+ * Cost: each word of the index is opened about once.
  * Refuses: BAD_HEADER, SMALL, DAMAGED, OUT_SMALL.
  */
 upbit_answer upbit_dump(const uint32_t *words, size_t words_length, const upbit_fence *fences, size_t fences_length,
@@ -178,7 +179,7 @@ upbit_answer upbit_dump(const uint32_t *words, size_t words_length, const upbit_
 
 /*
  * Whether the index is sound, in everything: UPBIT_OK or a refusal; the count is 0.
- * Cost: each word twice, each fence once. It takes 32 KB of stack.
+ * Cost: each word twice, each fence once.
  * Refuses: BAD_HEADER, SMALL, DAMAGED.
  */
 upbit_answer upbit_audit(const uint32_t *words, size_t words_length, const upbit_fence *fences, size_t fences_length,
