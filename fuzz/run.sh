@@ -7,7 +7,7 @@ cd "$(dirname "$0")/.."
 count=${1:-1000000}
 command -v clang++ >/dev/null || { apt-get update -q && apt-get install -y -q clang libclang-rt-dev; } >&2
 
-library=$(bash tests/c/library.sh)
+library=$(bash tools/staticlib.sh)
 built=target/fuzz
 mkdir -p "$built"
 clang++ -std=c++17 -Wall -Wextra -Werror -pedantic -g -O2 -fsanitize=fuzzer,address,undefined -fno-sanitize-recover=all \

@@ -4,7 +4,7 @@
 set -eu
 cd "$(dirname "$0")/.."
 
-UPBIT_LIB=$(bash tests/c/library.sh)
+UPBIT_LIB=$(bash tools/staticlib.sh)
 export UPBIT_LIB
 mkdir -p target/bindings
 log=target/bindings/test.log

@@ -8,7 +8,7 @@ for compiler in gcc g++; do
     command -v "$compiler" >/dev/null || { apt-get update -q && apt-get install -y -q "$compiler"; } >&2
 done
 
-library=$(bash tests/c/library.sh)
+library=$(bash tools/staticlib.sh)
 built=target/c
 mkdir -p "$built"
 strict=(-Wall -Wextra -Werror -pedantic -Iinclude)

@@ -2,7 +2,7 @@
 # Prints the path of the static library of the upbit_* functions: UPBIT_LIB if it is set, else target/staticlib/libabi.a
 # of the repository, which is made if it is not there.
 set -eu
-cd "$(dirname "$0")/../.."
+cd "$(dirname "$0")/.."
 
 library=${UPBIT_LIB:-$PWD/target/staticlib/libabi.a}
 if [ -z "${UPBIT_LIB:-}" ] && [ ! -f "$library" ]; then
