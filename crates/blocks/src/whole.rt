@@ -9,6 +9,7 @@ use crate::shape::Shape;
 use crate::shape::update_room;
 use words::check::Checked;
 use words::check::check;
+use words::check::ones_of;
 
 // Whether both lists are whole, with the number of U's ones.
 pub enum Lists {
@@ -17,7 +18,7 @@ pub enum Lists {
 }
 
 // Checks both lists of the block at `at`: length, canonical form, M groups, bits past R zero, at most
-// T ones in U. Each word is read once.
+// T ones in U. Each word is read once, those of U once more for their ones.
 pub fn check_lists(words: &[u32], at: usize, shape: Shape) -> Lists
     requires { ⌜ Limits shape × (at + blockSize shape ≤ length (now words)) ⌝ }
     ensures { λ r. ⌜ r ≡ wholeOf shape (part (now (words .entry)) at (blockSize shape)) ⌝ }
@@ -34,14 +35,15 @@ pub fn check_lists(words: &[u32], at: usize, shape: Shape) -> Lists
     let rows = shape.rows as usize;
     let value = at + 2;
     let value_end = value + value_length;
-    let Checked::Whole(_) = check(&words[value..value_end], rows) else {
+    let Checked::Whole = check(&words[value..value_end], rows) else {
         return Lists::Faulty;
     };
     let update = value + groups;
     let update_end = update + update_length;
-    let Checked::Whole(ones) = check(&words[update..update_end], rows) else {
+    let Checked::Whole = check(&words[update..update_end], rows) else {
         return Lists::Faulty;
     };
+    let ones = ones_of(&words[update..update_end]);
     if shape.threshold < ones {
         return Lists::Faulty;
     }

@@ -106,10 +106,10 @@ pub fn walks() {
 
 // The XOR of two lists for 31 rows; none where a list is not canonical or there is no room.
 fn xor_checked(left: &[u32], right: &[u32], out: &mut [u32]) -> usize {
-    let Checked::Whole(_) = check(left, 31) else {
+    let Checked::Whole = check(left, 31) else {
         return 0;
     };
-    let Checked::Whole(_) = check(right, 31) else {
+    let Checked::Whole = check(right, 31) else {
         return 0;
     };
     if out.len() == 0 {

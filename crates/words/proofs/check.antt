@@ -1,3 +1,6 @@
--- What the proof of the check uses: the loop over words; and what the check's answer says of a list, which Unpack uses too.
-mod Loop
+-- What the proofs of the check use: one word, the pass over words, its exits, the count of ones; and what the answer says of a list, which Unpack uses too.
+mod Fault
+mod Pass
+mod Ends
+mod Counting
 pub mod Verdict

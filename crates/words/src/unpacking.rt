@@ -80,7 +80,7 @@ pub fn unpack(list: &[u32], length: usize, out: &mut [u8]) -> Answer
     if out.len() < length {
         return Answer::Refused(Refusal::OutSmall);
     }
-    let Checked::Whole(_) = check(list, length) else {
+    let Checked::Whole = check(list, length) else {
         return Answer::Refused(Refusal::BadList);
     };
     unpack_into(list, &mut out[..length]);

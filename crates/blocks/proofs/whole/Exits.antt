@@ -2,13 +2,16 @@
 use mathlib.Core.Path.{_≡_, refl, _∙_, ap}
 use mathlib.Core.Bool.{Bool, true, false, cond}
 use mathlib.Core.List.{List}
-use Prim.Native.Nat.{ℕ, _+_, _<_, _≤_}
+use Prim.Native.Nat.{ℕ, _+_, _*_, _<_, _≤_}
 use native.Mathlib.Omega.{arith}
-use lib.ListN.{getD}
+use lib.ListN.{length, getD}
+use Rattle.words.specs.Rows.{rowLimit, onesIn, rowsOf}
+use Rattle.words.specs.Words.{decode, canonical}
 use Rattle.words.specs.Check.{checkOf}
 use Rattle.words.specs.declared.check.Checked.the-variants.{Whole, Bad}
-use Rattle.words.proofs.check.Verdict.{bad-canonical, whole-canonical, whole-ones}
-use Rattle.blocks.specs.Shape.{updateRoom, blockSize}
+use Rattle.words.proofs.Canonical.{canonical-parts}
+use Rattle.words.proofs.check.Verdict.{bad-canonical, whole-canonical}
+use Rattle.blocks.specs.Shape.{Limits, updateRoom, blockSize}
 use Rattle.blocks.specs.Block.{part, valueList, updateList}
 use Rattle.blocks.specs.Whole.{updateOnes, wholeLists, wholeOf}
 use Rattle.blocks.specs.declared.shape.Shape.{Shape}
@@ -52,24 +55,34 @@ module _ (shape : Shape) (words : List ℕ) (at : ℕ) where
     update-bad bad =
         not-whole shape _ (λ parts. never (parts .update-canonical) (bad-canonical _ (shape .rows) (rw (update-lent shape words at u) at bad)))
 
-    module _ (ones : ℕ) (good : Whole ones ≡ checkOf (lent words (at + 2 + shape .groups) (getD words (at + 1) 0)) (shape .rows)) where
-      ones-are : ones ≡ updateOnes shape (part words at (blockSize shape))
-      unfolding updateOnes
-      ones-are = whole-ones (updateList shape (part words at (blockSize shape))) (shape .rows) ones (rw (update-lent shape words at u) at good)
+    module _ (good : Whole ≡ checkOf (lent words (at + 2 + shape .groups) (getD words (at + 1) 0)) (shape .rows)) where
+      update-canonical : canonical (shape .rows) (updateList shape (part words at (blockSize shape))) ≡ true
+      update-canonical = whole-canonical _ (shape .rows) (rw (update-lent shape words at u) at good)
 
-      pub ones-exceed : shape .threshold < ones → Faulty ≡ wholeOf shape (part words at (blockSize shape))
-      ones-exceed many = not-whole shape _ (λ parts. omega (arith, parts .few-ones, ones-are))
+      -- its ones are few enough to be counted
+      pub ones-fit : Limits shape → 31 * length (decode (lent words (at + 2 + shape .groups) (getD words (at + 1) 0))) ≤ rowLimit
+      ones-fit limits =
+          rw (update-lent shape words at u)
+          (omega (arith, canonical-parts (shape .rows) (updateList shape (part words at (blockSize shape))) update-canonical .long, limits .fewRows))
 
-      pub intact : (value-ones : ℕ) → getD words at 0 ≤ shape .groups → Whole value-ones ≡ checkOf (lent words (at + 2) (getD words at 0)) (shape .rows)
-          → ones ≤ shape .threshold → Intact ones ≡ wholeOf shape (part words at (blockSize shape))
-      intact value-ones v whole few =
-          let block = part words at (blockSize shape) in
-          ap Intact ones-are
-          ∙ is-whole shape block
-          (record {
-            value-short = omega (arith, value-length shape words at);
-            update-short = omega (arith, update-length shape words at);
-            value-canonical = whole-canonical (valueList shape block) (shape .rows) value-ones (rw (value-lent shape words at v) at whole);
-            update-canonical = whole-canonical (updateList shape block) (shape .rows) ones (rw (update-lent shape words at u) at good);
-            few-ones = omega (arith, ones-are);
-          })
+      module _ (ones : ℕ) (counted : ones ≡ onesIn (rowsOf (decode (lent words (at + 2 + shape .groups) (getD words (at + 1) 0))))) where
+        ones-are : ones ≡ updateOnes shape (part words at (blockSize shape))
+        unfolding updateOnes
+        ones-are = rw (update-lent shape words at u) at counted
+
+        pub ones-exceed : shape .threshold < ones → Faulty ≡ wholeOf shape (part words at (blockSize shape))
+        ones-exceed many = not-whole shape _ (λ parts. omega (arith, parts .few-ones, ones-are))
+
+        pub intact : getD words at 0 ≤ shape .groups → Whole ≡ checkOf (lent words (at + 2) (getD words at 0)) (shape .rows)
+            → ones ≤ shape .threshold → Intact ones ≡ wholeOf shape (part words at (blockSize shape))
+        intact v whole few =
+            let block = part words at (blockSize shape) in
+            ap Intact ones-are
+            ∙ is-whole shape block
+            (record {
+              value-short = omega (arith, value-length shape words at);
+              update-short = omega (arith, update-length shape words at);
+              value-canonical = whole-canonical (valueList shape block) (shape .rows) (rw (value-lent shape words at v) at whole);
+              update-canonical = update-canonical;
+              few-ones = omega (arith, ones-are);
+            })

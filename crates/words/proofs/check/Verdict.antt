@@ -5,7 +5,7 @@ use mathlib.Core.List.{List, map}
 use Prim.Native.Nat.{ℕ}
 use lib.ListN.{length}
 use borrow.Author.Tests.{eq-eqb, ne-eqb}
-use Rattle.words.specs.Rows.{onesIn, groupsFor, rowsOf, clearFrom}
+use Rattle.words.specs.Rows.{groupsFor, clearFrom}
 use Rattle.words.specs.Words.{runOf, decode, noFill, wellFormed, canonical}
 use Rattle.words.specs.Check.{checkOf}
 use Rattle.words.specs.declared.check.Checked.the-variants.{Whole, Bad}
@@ -23,7 +23,7 @@ module _ (list : List ℕ) (rows : ℕ) where
 
   -- the bits past the last row decide
   pub as-clear : wellFormed noFill (map runOf list) ≡ true → length (decode list) ≡ groupsFor rows
-      → cond (clearFrom rows (decode list)) (Whole (onesIn (rowsOf (decode list)))) Bad ≡ checkOf list rows
+      → cond (clearFrom rows (decode list)) Whole Bad ≡ checkOf list rows
   unfolding checkOf canonical
   as-clear e k = rw (e, eq-eqb (length (decode list)) (groupsFor rows) k) refl
 
@@ -32,29 +32,20 @@ module _ (list : List ℕ) (rows : ℕ) where
   unfolding checkOf
   bad-canonical = go (canonical rows list)
     where
-      go : (t : Bool) → Bad ≡ cond t (Whole (onesIn (rowsOf (decode list)))) Bad → t ≡ false
+      go : (t : Bool) → Bad ≡ cond t Whole Bad → t ≡ false
       go true e = cc
       go false e = refl
 
   -- one that it finds whole is
-  pub whole-canonical : (ones : ℕ) → Whole ones ≡ checkOf list rows → canonical rows list ≡ true
+  pub whole-canonical : Whole ≡ checkOf list rows → canonical rows list ≡ true
   unfolding checkOf
-  whole-canonical ones = go (canonical rows list)
+  whole-canonical = go (canonical rows list)
     where
-      go : (t : Bool) → Whole ones ≡ cond t (Whole (onesIn (rowsOf (decode list)))) Bad → t ≡ true
+      go : (t : Bool) → Whole ≡ cond t Whole Bad → t ≡ true
       go true e = refl
       go false e = cc
 
-  -- and has as many ones as the check counts
-  pub whole-ones : (ones : ℕ) → Whole ones ≡ checkOf list rows → ones ≡ onesIn (rowsOf (decode list))
-  unfolding checkOf
-  whole-ones ones = go (canonical rows list)
-    where
-      go : (t : Bool) → Whole ones ≡ cond t (Whole (onesIn (rowsOf (decode list)))) Bad → ones ≡ onesIn (rowsOf (decode list))
-      go true e = cc
-      go false e = cc
-
-  -- THEOREM: a canonical list is found in full, with all its ones
-  pub canonical-whole : canonical rows list ≡ true → checkOf list rows ≡ Whole (onesIn (rowsOf (decode list)))
+  -- THEOREM: a canonical list is found whole
+  pub canonical-whole : canonical rows list ≡ true → checkOf list rows ≡ Whole
   unfolding checkOf
   canonical-whole e = rw e refl

@@ -32,8 +32,8 @@ module _ (list : List ℕ) (rows : ℕ) (out : List ℕ) where
   bad-list few room e =
       rw (le-ltb rowLimit rows few, le-ltb (length out) rows room, bad-canonical list rows e) (record { answers = refl; leaves = refl })
 
-  pub passes : rows ≤ rowLimit → rows ≤ length out → (ones : ℕ) → Whole ones ≡ checkOf list rows → CanUnpack list rows out
-  passes few room ones e = record { few = few; room = room; good = whole-canonical list rows ones e }
+  pub passes : rows ≤ rowLimit → rows ≤ length out → Whole ≡ checkOf list rows → CanUnpack list rows out
+  passes few room e = record { few = few; room = room; good = whole-canonical list rows e }
 
   -- the front of the output has room for the rows, and the list has as many of them
   module _ (can : CanUnpack list rows out) where

@@ -1,11 +1,14 @@
 -- `check_lists` meets its contract, an exit at a time: the lengths, V's check, U's check, and U's ones.
-use mathlib.Core.Path.{_∙_, sym}
+use mathlib.Core.Path.{_≡_, _∙_, sym}
 use Prim.Native.Nat.{_+_, _≤_}
 use native.Mathlib.Omega.{arith}
 use lib.ListN.{getD}
 use borrow.Author.Needs.{needs}
+use Rattle.words.specs.Check.{checkOf}
+use Rattle.words.specs.declared.check.Checked.the-variants.{Whole}
 use Rattle.blocks.specs.Shape.{updateRoom}
-use Rattle.blocks.proofs.whole.Exits.{value-exceeds, update-exceeds, value-bad, update-bad, ones-exceed, intact}
+use Rattle.blocks.proofs.WholeLists.{lent}
+use Rattle.blocks.proofs.whole.Exits.{value-exceeds, update-exceeds, value-bad, update-bad, ones-fit, ones-exceed, intact}
 use Rattle.blocks.proofs.whole.check_lists.Statement.{statement}
 use Rattle.blocks.proofs.whole.check_lists.Tie as tie
 
@@ -113,35 +116,61 @@ part-check-end-2 c = search needs
 check-requires-2 : tie.Need-check-requires-2
 check-requires-2 c κs = search needs
 
-enum-known-ones : tie.Need-enum-known-ones
-enum-known-ones c = search needs
-
 enum-told-3 : tie.Need-enum-told-3
 enum-told-3 c = search needs
+
+enum-told-4 : tie.Need-enum-told-4
+enum-told-4 c = search needs
 
 returns-4 : tie.Need-returns-4
 returns-4 c =
     let fit = c .before .before .before .before .before .before .before .before .before in
     let a = start fit .args in
-    update-bad (a .shape) (a .words .now) (a .at) (update-fits fit) (sym (c .enum-told3 .given .1) ∙ c .before .before .check2 .ensures)
+    update-bad (a .shape) (a .words .now) (a .at) (update-fits fit) (sym (c .enum-told4 .given .1) ∙ c .before .before .check2 .ensures)
+
+mul-ones-of : tie.Need-mul-ones-of
+mul-ones-of c = search needs
+
+sub-ones-of : tie.Need-sub-ones-of
+sub-ones-of c = search needs
+
+part-ones-of-start : tie.Need-part-ones-of-start
+part-ones-of-start c = search needs
+
+part-ones-of-end : tie.Need-part-ones-of-end
+part-ones-of-end c = search needs
+
+-- where both lists have passed
+abbrev passed : tie.After-enum-told3 → tie.Else2
+passed c = c .before .before .before .before .before .before .before .before .before
+
+update-good : (c : tie.After-enum-told3) → let a = start (passed c) .args in
+    Whole ≡ checkOf (lent (a .words .now) (a .at + 2 + a .shape .groups) (getD (a .words .now) (a .at + 1) 0)) (a .shape .rows)
+update-good c = sym (c .enum-told3 .given .1) ∙ c .before .before .check2 .ensures
+
+ones-of-requires : tie.Need-ones-of-requires
+ones-of-requires c κs =
+    let fit = passed (c .before) in
+    let a = start fit .args in
+    ones-fit (a .shape) (a .words .now) (a .at) (update-fits fit) (update-good (c .before)) (start fit .pre .0)
 
 returns-5 : tie.Need-returns-5
 returns-5 c =
-    let fit = c .before .before .before .before .before .before .before .before .before .before .before .before in
+    let whole = c .before .before .before .before in
+    let fit = passed whole in
     let a = start fit .args in
-    let ones = c .before .before .before .ones .given in
-    ones-exceed (a .shape) (a .words .now) (a .at) (update-fits fit) (ones .0 .0) (sym (ones .1) ∙ c .before .before .before .before .before .check2 .ensures)
-    (c .if3 .taken)
+    let ones = c .before .before .ones-of in
+    ones-exceed (a .shape) (a .words .now) (a .at) (update-fits fit) (update-good whole) (ones .result) (ones .ensures) (c .if3 .taken)
 
 returns-6 : tie.Need-returns-6
 returns-6 c =
-    let fit = c .before .before .before .before .before .before .before .before .before .before .before .before in
+    let whole = c .before .before .before .before in
+    let fit = passed whole in
     let a = start fit .args in
-    let ones = c .before .before .before .ones .given in
-    let value = c .before .before .before .before .before .before .before .enum-told .given in
-    let checked = c .before .before .before .before .before .before .before .before .before .check .ensures in
-    intact (a .shape) (a .words .now) (a .at) (update-fits fit) (ones .0 .0) (sym (ones .1) ∙ c .before .before .before .before .before .check2 .ensures)
-    (value .0 .0) (value-fits fit) (sym (value .1) ∙ checked) (c .if3 .left)
+    let ones = c .before .before .ones-of in
+    let value = whole .before .before .before .before in
+    intact (a .shape) (a .words .now) (a .at) (update-fits fit) (update-good whole) (ones .result) (ones .ensures)
+    (value-fits fit) (sym (value .enum-told .given .1) ∙ value .before .before .check .ensures) (c .if3 .left)
 
 pub check-lists-spec : {M : Type 1} → statement M
 check-lists-spec =
@@ -176,8 +205,13 @@ check-lists-spec =
     part-check-start-2
     part-check-end-2
     check-requires-2
-    enum-known-ones
     enum-told-3
+    enum-told-4
     returns-4
+    mul-ones-of
+    sub-ones-of
+    part-ones-of-start
+    part-ones-of-end
+    ones-of-requires
     returns-5
     returns-6)

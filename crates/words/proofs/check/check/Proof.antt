@@ -1,112 +1,84 @@
--- `check` meets its contract. The loop's invariant is `Behind`: what the check carries past the words it has read. Assumes nothing.
-use mathlib.Core.Path.{_∙_, sym}
-use Prim.Native.Nat.{_-_}
+-- `check` meets its contract, an exit at a time: the number of words, the form, the number of groups, the last group. Assumes nothing.
+use mathlib.Core.Path.{_≡_, _∙_, ap, sym}
+use mathlib.Core.Bool.{Bool, cond}
 use native.Mathlib.Omega.{arith}
-use lib.ListN.{length}
 use borrow.Author.Needs.{needs}
 use borrow.Author.Tests.{not-true, not-false}
-use Rattle.words.proofs.check.Loop.{Behind, begin, next-word, broken, short, ends}
+use Rattle.words.specs.Check.{checkOf}
+use Rattle.words.specs.declared.check.Checked.the-variants.{Whole, Bad}
+use Rattle.words.proofs.check.Ends.{too-long, ends}
+use Rattle.words.proofs.check.Verdict.{not-formed, not-long}
 use Rattle.words.proofs.check.check.Statement.{statement}
 use Rattle.words.proofs.check.check.Tie as tie
 
-abbrev Inv-loop : tie.InvT-loop
-Inv-loop list rows groups checking₀ i₀ checking i = Behind list rows i checking
+groups-for-requires : tie.Need-groups-for-requires
+groups-for-requires c κs = search needs
 
-abbrev μ-loop : tie.MeasureT-loop
-μ-loop list rows groups checking₀ i₀ checking i = length list - i
-
-groups-for-requires : tie.Need-groups-for-requires Inv-loop μ-loop
-groups-for-requires c κs = c .before .pre
-
-cast-t7 : tie.Need-cast-t7 Inv-loop μ-loop
-cast-t7 c = omega (arith, c .groups-for .ensures, c .before .before .pre)
-
-loop-holds : tie.Need-loop-holds Inv-loop μ-loop
-loop-holds c =
-    let a = c .before .before .args in
-    begin (a .list .now) (a .length) (c .groups-for .result) (c .before .before .pre) (c .groups-for .ensures)
-
-mul-judge : tie.Need-mul-judge Inv-loop μ-loop
-mul-judge c = omega arith
-
-shared-slice-read-judge : tie.Need-shared-slice-read-judge Inv-loop μ-loop
-shared-slice-read-judge c = omega arith
-
-judge-requires : tie.Need-judge-requires Inv-loop μ-loop
-judge-requires c κs = c .before .before .loop .inv .room
-
-enum-known-next : tie.Need-enum-known-next Inv-loop μ-loop
-enum-known-next c = search needs
-
-enum-told : tie.Need-enum-told Inv-loop μ-loop
-enum-told c = search needs
-
-returns : tie.Need-returns Inv-loop μ-loop
+returns : tie.Need-returns
 returns c =
-    let l = c .before .before .before .before .before .loop in
-    broken (l .inv) (c .before .before .before .before .loop-test .taken) (sym (c .enum-told .given .1) ∙ c .before .before .judge .ensures)
+    let a = c .before .before .before .args in
+    too-long (a .list .now) (a .length) (omega (arith, c .before .groups-for .ensures, c .if1 .taken))
 
-add-i : tie.Need-add-i Inv-loop μ-loop
-add-i c = omega arith
+form-of-requires : tie.Need-form-of-requires
+form-of-requires c κs = omega (arith, c .before .groups-for .ensures, c .before .before .before .pre, c .if1 .left)
 
-loop-less : tie.Need-loop-less Inv-loop μ-loop
-loop-less c = omega arith
+returns-2 : tie.Need-returns-2
+returns-2 c =
+    let a = c .before .before .before .before .before .before .args in
+    let form = c .before .before .form-of in
+    not-formed (a .list .now) (a .length) (sym (form .ensures .0) ∙ not-true (form .result .kept) (c .if2 .taken))
 
-loop-again : tie.Need-loop-again Inv-loop μ-loop
-loop-again c =
-    let l = c .before .before .before .before .before .before .loop in
-    let next = c .before .next .given in
-    next-word (l .inv) (c .before .before .before .before .before .loop-test .taken) (next .0 .0) (sym (next .1) ∙ c .before .before .before .judge .ensures)
-
-returns-2 : tie.Need-returns-2 Inv-loop μ-loop
-returns-2 c = short (c .before .before .before .loop .inv) (c .before .before .loop-test .left) (c .if1 .taken)
-
-mul-tail-clear : tie.Need-mul-tail-clear Inv-loop μ-loop
-mul-tail-clear c = omega (arith, c .before .before .before .before .groups-for .ensures)
-
-sub-tail-clear : tie.Need-sub-tail-clear Inv-loop μ-loop
-sub-tail-clear c = omega (arith, c .before .before .before .before .groups-for .ensures)
-
-tail-clear-requires : tie.Need-tail-clear-requires Inv-loop μ-loop
-tail-clear-requires c κs = omega (arith, c .before .before .before .before .groups-for .ensures)
-
-returns-3 : tie.Need-returns-3 Inv-loop μ-loop
+returns-3 : tie.Need-returns-3
 returns-3 c =
-    let b = c .before .before .before .before .before .loop .inv in
-    let g = c .before .before .before .before .before .before .groups-for in
-    let t = c .before .tail-clear in
-    let told = ends b (c .before .before .before .before .loop-test .left) (omega arith) (g .result) (g .ensures) (t .result) (t .ensures) in
-    rw (not-true (t .result) (c .if2 .taken)) at told
+    let a = c .before .before .before .before .before .before .before .before .args in
+    let form = c .before .before .before .before .form-of in
+    let groups = c .before .before .before .before .before .before .groups-for in
+    not-long (a .list .now) (a .length) (λ q. c .if3 .taken (form .ensures .1 ∙ q ∙ sym (groups .ensures)))
 
-returns-4 : tie.Need-returns-4 Inv-loop μ-loop
-returns-4 c =
-    let b = c .before .before .before .before .before .loop .inv in
-    let g = c .before .before .before .before .before .before .groups-for in
-    let t = c .before .tail-clear in
-    let told = ends b (c .before .before .before .before .loop-test .left) (omega arith) (g .result) (g .ensures) (t .result) (t .ensures) in
-    rw (not-false (t .result) (c .if2 .left)) at told
+last-group-requires : tie.Need-last-group-requires
+last-group-requires c κs = search needs
+
+mul-tail-clear : tie.Need-mul-tail-clear
+mul-tail-clear c = omega (arith, c .before .before .before .before .before .before .before .groups-for .ensures)
+
+sub-tail-clear : tie.Need-sub-tail-clear
+sub-tail-clear c = omega (arith, c .before .before .before .before .before .before .before .groups-for .ensures)
+
+tail-clear-requires : tie.Need-tail-clear-requires
+tail-clear-requires c κs = omega (arith, c .before .before .before .before .before .before .before .groups-for .ensures)
+
+-- where only the last group is left to decide
+abbrev start : tie.After-tail-clear → tie.Start
+start c = c .before .before .before .before .before .before .before .before .before .before
+
+told : (c : tie.After-tail-clear) → cond (c .tail-clear .result) Whole Bad ≡ checkOf (start c .args .list .now) (start c .args .length)
+told c =
+    let a = start c .args in
+    let form = c .before .before .before .before .before .before .form-of in
+    let groups = c .before .before .before .before .before .before .before .before .groups-for in
+    let formed = sym (form .ensures .0) ∙ not-false (form .result .kept) (c .before .before .before .before .if2 .left) in
+    let last = c .before .last-group in
+    ends (a .list .now) (a .length) formed (groups .result) (groups .ensures) (sym (form .ensures .1) ∙ c .before .before .if3 .left)
+    (last .result) (last .ensures) (c .tail-clear .result) (c .tail-clear .ensures)
+
+returns-4 : tie.Need-returns-4
+returns-4 c = ap (λ (t : Bool). cond t Whole Bad) (sym (not-true (c .before .tail-clear .result) (c .if4 .taken))) ∙ told (c .before)
+
+returns-5 : tie.Need-returns-5
+returns-5 c = ap (λ (t : Bool). cond t Whole Bad) (sym (not-false (c .before .tail-clear .result) (c .if4 .left))) ∙ told (c .before)
 
 pub check-spec : {M : Type 1} → statement M
 check-spec =
     tie.close
     (tie.spec
-    Inv-loop
-    μ-loop
     groups-for-requires
-    cast-t7
-    loop-holds
-    mul-judge
-    shared-slice-read-judge
-    judge-requires
-    enum-known-next
-    enum-told
     returns
-    add-i
-    loop-less
-    loop-again
+    form-of-requires
     returns-2
+    returns-3
+    last-group-requires
     mul-tail-clear
     sub-tail-clear
     tail-clear-requires
-    returns-3
-    returns-4)
+    returns-4
+    returns-5)

@@ -46,7 +46,7 @@ unpack-into-requires c κs =
     let room = c .before .before .before .before .if2 .left in
     let whole = c .before .enum-told .given in
     let checked = sym (whole .1) ∙ c .before .before .before .check .ensures in
-    has-rows (a .list .now) (a .length) (a .out .now) (passes (a .list .now) (a .length) (a .out .now) few room (whole .0 .0) checked)
+    has-rows (a .list .now) (a .length) (a .out .now) (passes (a .list .now) (a .length) (a .out .now) few room checked)
 
 same-length : tie.Need-same-length
 same-length c = search needs
@@ -58,7 +58,7 @@ returns-4 c =
     let room = c .before .before .before .before .before .before .before .if2 .left in
     let whole = c .before .before .before .before .enum-told .given in
     let checked = sym (whole .1) ∙ c .before .before .before .before .before .before .check .ensures in
-    let can = passes (a .list .now) (a .length) (a .out .now) few room (whole .0 .0) checked in
+    let can = passes (a .list .now) (a .length) (a .out .now) few room checked in
     done (a .list .now) (a .length) (a .out .now) can (c .before .before .unpack-into .last .1 .0) (c .before .before .unpack-into .ensures)
 
 pub unpack-spec : {M : Type 1} → statement M
