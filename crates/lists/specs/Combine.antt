@@ -1,11 +1,11 @@
 -- Document 02 [3] ahead: two lists of groups are combined bit by bit, by an operation that is a table of four answers.
 use mathlib.Core.Path.{_≡_}
-use mathlib.Core.Bool.{Bool}
-use mathlib.Core.List.{List, [], _∷_, _++_}
-use Prim.Native.Nat.{ℕ, zero, suc, _+_, _*_, _-_, _/_, _%_, _<_}
+use mathlib.Core.Bool.{Bool, true}
+use mathlib.Core.List.{List, [], _∷_, _++_, map}
+use Prim.Native.Nat.{ℕ, zero, suc, _+_, _*_, _-_, _/_, _%_, _<_, _≤_}
 use lib.ListN.{length, getD, drop, replicate}
 use Rattle.words.specs.Rows.{allZero}
-use Rattle.words.specs.Words.{runOf, span, decode}
+use Rattle.words.specs.Words.{runOf, span, decode, noFill, wellFormed}
 use Rattle.words.specs.Writer.{Alone}
 use Rattle.lists.specs.declared.combine.Span.{Span}
 
@@ -58,6 +58,10 @@ apart xs ys = allZero (combined shared xs ys)
 abbrev pub Filled : List ℕ → Type 0
 Filled list = (i : ℕ) → i < length list → 0 < span (runOf (getD list i 0))
 
+-- a list that keeps the form
+abbrev pub Formed : List ℕ → Type 0
+Formed list = wellFormed noFill (map runOf list) ≡ true
+
 -- a list whose groups are so many
 pub record Covers (groups : ℕ) (list : List ℕ) : Type 0 where
   pub filled : Filled list
@@ -77,3 +81,4 @@ pub record Opened (list : List ℕ) (before after : Span) : Type 0 where
   pub some : 0 < after .left
   pub alone : Alone (after .group) (after .left)
   pub small : after .group < 0x80000000
+  pub near : after .next ≤ length list

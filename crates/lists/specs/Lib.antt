@@ -1,3 +1,4 @@
 pub mod Walk
 pub mod Combine
+pub mod Copying
 pub mod OneRow

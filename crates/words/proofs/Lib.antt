@@ -1,6 +1,7 @@
 pub mod Bits
 pub mod Calls
 pub mod Canonical
+pub mod Copied
 pub mod Forms
 pub mod Gather
 pub mod Group

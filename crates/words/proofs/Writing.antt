@@ -33,28 +33,32 @@ begins total out = record { isBit = omega arith; within = omega arith; same = re
 
 module _ {total rest out₀ out : List ℕ} {at : ℕ} {pending : Pending} (w : Writing total rest out₀ out at pending) (room : length (encode total) ≤ length out₀)
   where
+    -- the next words are written, and another run is pending behind them
+    module _ (more words : List ℕ) (count : ℕ) (next : Pending) (long : length words ≡ count)
+        (law : encode (after pending rest) ≡ words ++ encode (after next more)) where
+      pub words-fit : at + count ≤ length out
+      words-fit = omega (arith, simp (law, length-append) at (ap length (w .whole)), long, length-take-le at out (w .within), w .same)
+
+      pub words-on : next .bit < 2 → Writing total more out₀ (sets out at words) (at + count) next
+      words-on isBit =
+          record {
+            isBit = isBit;
+            within = rw length-sets words-fit;
+            same = length-sets out at words ∙ w .same;
+            whole = rw (sets-front out at count words long words-fit, append-assoc, ← law) (w .whole);
+            kept = sets-behind out at count words long words-fit ∙ drop-further out out₀ at count (w .kept);
+          }
+
     -- a step that takes in the next groups
     module _ (groups more : List ℕ) (step : Step) (e : rest ≡ groups ++ more) (t : Takes pending groups step) where
+      step-law : encode (after pending rest) ≡ written step ++ encode (after (step .pending) more)
+      step-law = rw e (t .law more)
+
       pub step-fits : at + step .words ≤ length out
-      step-fits =
-          omega (
-            arith,
-            simp (e, t .law more, length-append) at (ap length (w .whole)),
-            written-length step (t .few),
-            length-take-le at out (w .within),
-            w .same,
-          )
+      step-fits = words-fit more (written step) (step .words) (step .pending) (written-length step (t .few)) step-law
 
       pub step-on : Writing total more out₀ (sets out at (written step)) (at + step .words) (step .pending)
-      step-on =
-          let n : length (written step) ≡ step .words = written-length step (t .few) in
-          record {
-            isBit = t .isBit;
-            within = rw length-sets step-fits;
-            same = length-sets out at (written step) ∙ w .same;
-            whole = rw (sets-front out at (step .words) (written step) n step-fits, append-assoc, ← t .law more, ← e) (w .whole);
-            kept = sets-behind out at (step .words) (written step) n step-fits ∙ drop-further out out₀ at (step .words) (w .kept);
-          }
+      step-on = words-on more (written step) (step .words) (step .pending) (written-length step (t .few)) step-law (t .isBit)
 
     -- no group is left
     module _ (e : rest ≡ []) where

@@ -21,7 +21,7 @@ use Rattle.lists.proofs.Operations.{GivesBits, alone-onGroup}
 use Rattle.lists.proofs.Combining.{combined-none, combined-spans}
 use Rattle.lists.proofs.Covering.{word-small}
 
-length-remaining : (list : List ℕ) (at-hand : Span) → length (remaining list at-hand) ≡ at-hand .left + length (decode (drop (at-hand .next) list))
+pub length-remaining : (list : List ℕ) (at-hand : Span) → length (remaining list at-hand) ≡ at-hand .left + length (decode (drop (at-hand .next) list))
 length-remaining list at-hand = length-append (replicate (at-hand .left) (at-hand .group)) (decode (drop (at-hand .next) list)) ∙ rw length-replicate refl
 
 -- ---- a word opened
@@ -48,6 +48,7 @@ module _ (list : List ℕ) (used : Span) (none : used .left ≡ 0) (some : 0 < l
         some = filled (used .next) opens-at;
         alone = run-alone (runAt list (used .next)) (read-narrow _);
         small = word-small list (used .next);
+        near = omega (arith, opens-at);
       }
 
 -- ---- the loop
@@ -57,6 +58,7 @@ pub record Side (list : List ℕ) (groups done : ℕ) (at-hand : Span) : Type 0 
   pub long : length (remaining list at-hand) + done ≡ groups
   pub alone : Alone (at-hand .group) (at-hand .left)
   pub small : at-hand .group < 0x80000000
+  pub near : at-hand .next ≤ length list
 
 -- the first `done` groups of both lists are combined and, but for what is pending, written
 pub record Combining (operation : Operation) (left right : List ℕ) (groups : ℕ) (out₀ out : List ℕ) (from-left from-right : Span)
@@ -73,7 +75,7 @@ abbrev unopened : Span
 unopened = record { group = 0; left = 0; next = 0 }
 
 side-begins : (groups : ℕ) (list : List ℕ) → Covers groups list → Side list groups 0 unopened
-side-begins groups list covers = record { long = omega (arith, covers .long); alone = λ none all. omega arith; small = omega arith }
+side-begins groups list covers = record { long = omega (arith, covers .long); alone = λ none all. omega arith; small = omega arith; near = omega arith }
 
 pub combining-begins : (operation : Operation) (left right : List ℕ) (groups : ℕ) (out : List ℕ)
     → Covers groups left → Covers groups right → length (encode (combined operation (decode left) (decode right))) ≤ length out
@@ -94,13 +96,14 @@ pub record Turn (operation : Operation) (left right : List ℕ) (from-left from-
   pub makes : group ≡ onGroup operation (x .group) (y .group)
   pub shortest : count ≡ min (x .left) (y .left)
 
-side-on : (list : List ℕ) (groups done count : ℕ) (at-hand opened : Span)
+pub side-on : (list : List ℕ) (groups done count : ℕ) (at-hand opened : Span)
     → Side list groups done at-hand → Opened list at-hand opened → count ≤ opened .left → Side list groups (done + count) (shorter opened count)
 side-on list groups done count at-hand opened side opens h =
     record {
       long = omega (arith, side .long, ap length (opens .same), length-remaining list opened, length-remaining list (shorter opened count));
       alone = λ none all. omega (arith, opens .alone none all);
       small = opens .small;
+      near = opens .near;
     }
 
 module _ {operation : Operation} {left right : List ℕ} {groups : ℕ} {out₀ out : List ℕ} {from-left from-right : Span} {pending : Pending} {at done : ℕ}

@@ -6,7 +6,8 @@ use Prim.Native.Nat.{ℕ, _/_, _<_, _≤_}
 use native.Mathlib.Omega.{arith}
 use lib.ListN.{length, take, drop, replicate}
 use Rattle.words.specs.Words.{decode, encode}
-use Rattle.lists.specs.Combine.{exclusive, combined, Covers}
+use Rattle.words.proofs.Canonical.{canonical-parts}
+use Rattle.lists.specs.Combine.{exclusive, combined, Formed, Covers}
 use Rattle.lists.specs.OneRow.{oneRow, Packs}
 use Rattle.lists.specs.declared.one_row.Short.{Short}
 use Rattle.lists.proofs.OneRow.{decode-oneRow, oneRow-covers}
@@ -17,7 +18,7 @@ use Rattle.blocks.specs.Whole.{wholeLists}
 use Rattle.values.specs.Change.{turnedList, turned}
 use Rattle.blocks.specs.declared.shape.Shape.{Shape}
 use Rattle.blocks.proofs.Rooms.{padded-front}
-use Rattle.blocks.proofs.WholeLists.{update-covers}
+use Rattle.blocks.proofs.WholeLists.{whole-parts, update-covers}
 
 -- `left` is U, and `short` packs the row
 module _ (shape : Shape) (limits : Limits shape) (row : ℕ) (h : row < shape .rows) (block : List ℕ) (whole : wholeLists shape block ≡ true)
@@ -41,12 +42,13 @@ module _ (shape : Shape) (limits : Limits shape) (row : ℕ) (h : row < shape .r
   -- the XOR may be made, and leaves that list
   pub turns : (out : List ℕ) → length (turnedList shape row block) ≤ length out
       → Covers (shape .groups) left × Covers (shape .groups) right × (shape .groups ≤ 4096)
-      × (length (encode (combined exclusive (decode left) (decode right))) ≤ length out)
+      × (length (encode (combined exclusive (decode left) (decode right))) ≤ length out) × Formed left
   turns out room = (
     rw l (update-covers shape limits block whole),
     oneRow-covers (shape .groups) row within (omega (arith, few)) short packs,
     few,
     rw is-turned room,
+    rw l (canonical-parts (shape .rows) (updateList shape block) (whole-parts shape block whole .update-canonical) .form),
   )
 
   pub combined-turned : (count : ℕ) (out last : List ℕ)
