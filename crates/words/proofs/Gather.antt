@@ -1,10 +1,10 @@
 -- The loop that gathers a group from its rows, the first row first. Assumes nothing.
-use mathlib.Core.Path.{_≡_, refl, _∙_, sym}
+use mathlib.Core.Path.{_≡_, _∙_, sym}
 use mathlib.Core.Bool.{true}
 use mathlib.Core.List.{List}
 use Prim.Native.Nat.{ℕ, suc, _+_, _*_, _-_, _%_, _^_, _<_, _≤_}
 use native.Mathlib.Omega.{arith}
-use native.Mathlib.Nat.{add-assoc, zero-add, add-mul, mul-assoc, pow-succ'}
+use native.Mathlib.Nat.{zero-add, pow-succ'}
 use native.Mathlib.Numerals.{add-one}
 use lib.ListN.{length, getD, drop, drop-of-length-le}
 use lib.Seq.{drop-cons}
@@ -12,15 +12,13 @@ use lib.Pow.{pow-add, shl-exact}
 use Rattle.words.specs.Rows.{areBits, groupOf}
 use Rattle.words.proofs.Bits.{areBits-getD}
 use Rattle.words.proofs.Group.{groupOf-nil}
+use Rattle.words.proofs.Parts.{joined}
 
 -- i rows are in `group`, the others are still to come
 pub record Gathered (rows : List ℕ) (group i : ℕ) : Type 0 where
   pub within : i ≤ length rows
   pub small : group < 2 ^ i
   pub whole : groupOf 31 rows ≡ group * 2 ^ (31 - i) + groupOf (31 - i) (drop i rows)
-
-doubled : (group row power below : ℕ) → group * (2 * power) + (row * power + below) ≡ (group * 2 + row) * power + below
-doubled group row power below = rw (add-mul, mul-assoc, add-assoc) refl
 
 -- the loop begins, takes one row more, and ends with a shift over the missing rows
 module _ (rows : List ℕ) where
@@ -35,7 +33,7 @@ module _ (rows : List ℕ) where
       record {
         within = omega arith;
         small = omega (arith, k .small, areBits-getD rows bits i, pow-add 2 i 1);
-        whole = k .whole ∙ rw (here, next, drop-cons rows i 0 h, add-one, pow-succ') (doubled group (getD rows i 0) (2 ^ (30 - i)) _);
+        whole = k .whole ∙ rw (here, next, drop-cons rows i 0 h, add-one, pow-succ') (joined group 2 (2 ^ (30 - i)) (getD rows i 0) _);
       }
 
   pub gather-all : (group i : ℕ) → length rows ≤ 31 → length rows ≤ i → Gathered rows group i → group * 2 ^ (31 - i) % 2 ^ 32 ≡ groupOf 31 rows

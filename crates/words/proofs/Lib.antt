@@ -7,6 +7,7 @@ pub mod Gather
 pub mod Group
 pub mod Groups
 pub mod Ones
+pub mod Parts
 pub mod Round
 pub mod RowsBack
 pub mod Runs

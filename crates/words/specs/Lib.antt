@@ -1,4 +1,5 @@
 pub mod Rows
+pub mod Bytes
 pub mod Words
 pub mod Writer
 pub mod Check

@@ -3,6 +3,7 @@
 //
 // Below it stands `answers`, for the numbers a caller gets back. It knows nothing of an index.
 pub mod check;
+pub mod eights;
 pub mod packing;
 pub mod rows;
 pub mod unpacking;

@@ -4,6 +4,10 @@ ghost use mathlib.Core.Bool.{true};
 ghost use Prim.Native.Nat.{ℕ, min, _-_, _/_, _%_, _^_, _<_, _≤_};
 ghost use lib.ListN.{length, take};
 ghost use Rattle.words.specs.Rows.{rowLimit, groupsFor, areBits, groupOf, bitsOf, allZero};
+use crate::eights::eight_bits;
+use crate::eights::eight_rows;
+use crate::eights::put_eight;
+use crate::eights::wide;
 
 // The most rows a list can have.
 pub const ROW_LIMIT: usize = 126976;
@@ -88,14 +92,17 @@ pub fn all_zero(words: &[u32]) -> bool
     gathered == 0
 }
 
-fn wide(byte: u8) -> u32
-    ensures { λ r. ⌜ r ≡ byte ⌝ }
+// The group of 31 rows, three times eight and seven: the last eight begin with a row that is there.
+fn whole_group(rows: &[u8]) -> u32
+    requires { ⌜ (areBits (now rows) ≡ true) × (length (now rows) ≡ 31) ⌝ }
+    ensures { λ r. ⌜ r ≡ groupOf 31 (now (rows .entry)) ⌝ }
 {
-    byte as u32
+    let front = (eight_rows(rows, 0) * 256 + eight_rows(rows, 8)) * 256 + eight_rows(rows, 16);
+    front * 128 + eight_rows(rows, 23) % 128
 }
 
-// The group of at most 31 rows, each 0 or 1; a short group is filled with zeros at its low end.
-pub fn group_of(rows: &[u8]) -> u32
+// The group of at most 31 rows, one after the other.
+fn short_group(rows: &[u8]) -> u32
     requires { ⌜ (areBits (now rows) ≡ true) × (length (now rows) ≤ 31) ⌝ }
     ensures { λ r. ⌜ r ≡ groupOf 31 (now (rows .entry)) ⌝ }
 {
@@ -106,6 +113,18 @@ pub fn group_of(rows: &[u8]) -> u32
         i += 1;
     }
     group << (31 - i)
+}
+
+// The group of at most 31 rows, each 0 or 1; a short group is filled with zeros at its low end.
+pub fn group_of(rows: &[u8]) -> u32
+    requires { ⌜ (areBits (now rows) ≡ true) × (length (now rows) ≤ 31) ⌝ }
+    ensures { λ r. ⌜ r ≡ groupOf 31 (now (rows .entry)) ⌝ }
+{
+    if rows.len() == 31 {
+        whole_group(rows)
+    } else {
+        short_group(rows)
+    }
 }
 
 // The row of a group that stands under a mask.
@@ -123,8 +142,19 @@ pub fn row_of(group: u32, i: usize) -> u8
     under(group, MASKS[i])
 }
 
-// Writes the first rows of a group, as many as `out` has room for.
-pub fn put_rows(out: &mut [u8], group: u32)
+// Writes the 31 rows of a group, eight at a time; the last eight begin with a row that is there.
+fn put_whole(out: &mut [u8], group: u32)
+    requires { ⌜ length (now out) ≡ 31 ⌝ }
+    ensures { λ _. ⌜ now (out .exit) ≡ bitsOf 31 group ⌝ }
+{
+    put_eight(out, 0, eight_bits(group as u64, 23));
+    put_eight(out, 8, eight_bits(group as u64, 15));
+    put_eight(out, 16, eight_bits(group as u64, 7));
+    put_eight(out, 23, eight_bits(group as u64, 0));
+}
+
+// Writes the first rows of a group, one after the other.
+fn put_short(out: &mut [u8], group: u32)
     requires { ⌜ length (now out) ≤ 31 ⌝ }
     ensures { λ _. ⌜ now (out .exit) ≡ take (length (now (out .entry))) (bitsOf 31 group) ⌝ }
 {
@@ -133,5 +163,17 @@ pub fn put_rows(out: &mut [u8], group: u32)
     while i < out.len() {
         out[i] = under(group, masks[i]);
         i += 1;
+    }
+}
+
+// Writes the first rows of a group, as many as `out` has room for.
+pub fn put_rows(out: &mut [u8], group: u32)
+    requires { ⌜ length (now out) ≤ 31 ⌝ }
+    ensures { λ _. ⌜ now (out .exit) ≡ take (length (now (out .entry))) (bitsOf 31 group) ⌝ }
+{
+    if out.len() == 31 {
+        put_whole(out, group);
+    } else {
+        put_short(out, group);
     }
 }

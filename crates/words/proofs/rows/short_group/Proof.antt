@@ -1,12 +1,12 @@
--- `words::rows::group_of`: after i turns the first i rows are gathered, the first of them the highest. Assumes nothing.
+-- `words::rows::short_group`: after i turns the first i rows are gathered, the first of them the highest. Assumes nothing.
 use Prim.Native.Nat.{_-_}
 use native.Mathlib.Omega.{arith}
 use lib.ListN.{length}
 use lib.Pow.{pow-mono}
 use borrow.Author.Needs.{needs}
 use Rattle.words.proofs.Gather.{Gathered, gather-none, gather-more, gather-all}
-use Rattle.words.proofs.rows.group_of.Statement.{statement}
-use Rattle.words.proofs.rows.group_of.Tie as tie
+use Rattle.words.proofs.rows.short_group.Statement.{statement}
+use Rattle.words.proofs.rows.short_group.Tie as tie
 
 abbrev Inv-loop : tie.InvT-loop
 Inv-loop rows group₀ i₀ group i = Gathered rows group i
@@ -41,7 +41,7 @@ loop-again : tie.Need-loop-again Inv-loop μ-loop
 loop-again c =
     let loop = c .before .before .before .loop in
     let start = c .before .before .before .before .before in
-    rw (c .wide .ensures) (gather-more (start .args .rows .now) (loop .group) (loop .i) (start .pre .0) (start .pre .1) (omega arith) (loop .inv))
+    rw (c .wide .ensures .0) (gather-more (start .args .rows .now) (loop .group) (loop .i) (start .pre .0) (start .pre .1) (omega arith) (loop .inv))
 
 sub-result : tie.Need-sub-result Inv-loop μ-loop
 sub-result c = omega arith
@@ -58,8 +58,8 @@ returns c =
     let start = c .before .before .before in
     gather-all (start .args .rows .now) (loop .group) (loop .i) (start .pre .1) (omega arith) (loop .inv)
 
-pub group-of-spec : {M : Type 1} → statement M
-group-of-spec =
+pub short-group-spec : {M : Type 1} → statement M
+short-group-spec =
     tie.close
     (tie.spec
     Inv-loop
