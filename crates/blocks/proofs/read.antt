@@ -1,2 +1,2 @@
 -- What the proofs of reading use: each way out of the two reads, over the lent words.
-mod Exits
+pub mod Exits

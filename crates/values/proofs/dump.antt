@@ -1,5 +1,4 @@
--- What the proofs of Dump's part use: the rows of one group, and the spans of groups.
-mod HighestBit
-mod Marking
-mod Spans
+-- What the proofs of Dump's part use: the loop over a span, the words that cover its groups, and the span of a block.
+mod InBlock
+mod Reaching
 mod Spanning

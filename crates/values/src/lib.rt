@@ -8,3 +8,4 @@ pub mod change;
 pub mod column;
 pub mod current;
 pub mod dump;
+pub mod marking;

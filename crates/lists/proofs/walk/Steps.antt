@@ -92,7 +92,7 @@ module _ (list : List ℕ) (budget i skip : ℕ) (c : Covering) (h : i < length 
       (λ b. b)
       (λ spent. absurd (not-covered (sym (spends list budget i skip h (omega (arith, spent))) ∙ e)))
 
-  counts-some : span (runAt list i) ≡ 0 → ⊥
+  pub counts-some : span (runAt list i) ≡ 0 → ⊥
   counts-some none = not-covered (sym (counts-none list budget i skip h found-paid none) ∙ e)
 
   -- the word found is the one at place i, or it is found from the next place on

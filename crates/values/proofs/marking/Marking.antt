@@ -11,7 +11,7 @@ use lib.Seq.{ext-getD, getD-set-same, getD-set-other}
 use borrow.Author.Tests.{eq-eqb, ne-eqb, eqb-true, eqb-false}
 use Rattle.values.specs.Dump.{eachRow, everyRow, freeInGroup, markedInGroup}
 use Rattle.values.proofs.EachRow.{length-each, getD-each, each-every, every-fails}
-use Rattle.values.proofs.dump.HighestBit.{bit, Top, lower, other-row, row-gone, row-set, row-before}
+use Rattle.values.proofs.marking.HighestBit.{bit, Top, lower, other-row, row-gone, row-set, row-before}
 
 -- rows whose bit is not in `rest` are done; the others are in the group, and as they were
 pub record Marking (rows₀ rows : List ℕ) (group value rest : ℕ) : Type 0 where

@@ -1,10 +1,10 @@
--- `mark_group` meets its contract. The loop's invariant is `Marking`: the rows whose bit is no longer in `rest` are done. Assumes nothing.
+-- `mark_few` meets its contract. The loop's invariant is `Marking`: the rows whose bit is no longer in `rest` are done. Assumes nothing.
 use native.Mathlib.Omega.{arith}
 use lib.Count.{leadingZeros}
-use Rattle.values.proofs.dump.HighestBit.{Top, top, shrinks, mask}
-use Rattle.values.proofs.dump.Marking.{Marking, begin, ends, behind, taken, next-row}
-use Rattle.values.proofs.dump.mark_group.Statement.{statement}
-use Rattle.values.proofs.dump.mark_group.Tie as tie
+use Rattle.values.proofs.marking.HighestBit.{Top, top, shrinks, mask}
+use Rattle.values.proofs.marking.Marking.{Marking, begin, ends, behind, taken, next-row}
+use Rattle.values.proofs.marking.mark_few.Statement.{statement}
+use Rattle.values.proofs.marking.mark_few.Tie as tie
 
 abbrev Inv-loop : tie.InvT-loop
 Inv-loop rows₀ group value rest₀ rows rest = Marking rows₀ rows group value rest
@@ -69,8 +69,8 @@ same-length-3 c = c .before .loop .inv .same
 returns-3 : tie.Need-returns-3 Inv-loop μ-loop
 returns-3 c = ends (c .before .loop .inv) (c .loop-test .left)
 
-pub mark-group-spec : {M : Type 1} → statement M
-mark-group-spec =
+pub mark-few-spec : {M : Type 1} → statement M
+mark-few-spec =
     tie.close
     (tie.spec
     Inv-loop
