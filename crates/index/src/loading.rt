@@ -8,7 +8,7 @@ ghost use Rattle.steps.specs.Outcomes.{Leaves};
 ghost use Rattle.index.specs.Calls.{loadedIn, loadAfter};
 use crate::fences::renew;
 use steps::column::enter_load;
-use steps::column::load_value;
+use steps::column::load_blocks;
 use steps::entry::Entry;
 use steps::entry::Plan;
 use steps::header::Changed;
@@ -19,23 +19,24 @@ use steps::header::header_for;
 use steps::header::no_header;
 use steps::header::refuse;
 
-// Writes the blocks and the fences of all values.
+// Writes the blocks of all values, and then their fences.
 fn load_values(words: &mut [u32], fences: &mut [Fence], column: &[u8], header: Header, plan: Plan)
     requires { ⌜ Planned header plan (length (now words)) (length (now fences)) × (length (now column) ≤ header .rows) ⌝ }
     ensures { λ _. ⌜ (now (words .exit) ≡ loadedIn header (now (column .entry)) (header .values) (memoryOf (now (words .entry)) (now (fences .entry))) .words)
         × (now (fences .exit) ≡ loadedIn header (now (column .entry)) (header .values) (memoryOf (now (words .entry)) (now (fences .entry))) .fences) ⌝ }
 {
+    load_blocks(words, column, plan, header.values);
     let mut value: u32 = 0;
     while value < header.values {
-        load_value(words, column, plan, value);
         renew(words, fences, plan, value);
         value = value + 1;
     }
 }
 
 // Loads a column of bytes, one a row: a value below d, or 255 for a deleted row. It writes all lists and
-// fences with empty updates, and gives the header: one pass over the column for the refusals and one for
-// each value. What is lent beyond d x B words and d x F fences stays.
+// fences with empty updates, and gives the header: one pass over the column for the refusals, one for
+// the groups of all values, and one over the groups of each value. What is lent beyond d x B words and
+// d x F fences stays.
 //
 // Refuses, with a header of zeros: BAD_HEADER by R, d, T and G alone, SMALL, BAD_VALUE, FULL.
 pub fn load(

@@ -1,4 +1,5 @@
 pub mod Altering
 pub mod FenceRecords
 pub mod Headers
+pub mod Loading
 pub mod RowLaws

@@ -5,3 +5,4 @@ pub mod Fences
 pub mod Memory
 pub mod Outcomes
 pub mod Reading
+pub mod Spread

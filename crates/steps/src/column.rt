@@ -1,19 +1,20 @@
-// The column of a load: its bytes, its refusals, and what it makes of one value.
+// The column of a load: its bytes, its refusals, and the blocks that it makes.
 ghost use mathlib.Core.Path.{_≡_};
-ghost use Prim.Native.Nat.{ℕ, _<_, _≤_};
+ghost use Prim.Native.Nat.{ℕ, _≤_};
 ghost use lib.Dec.{leb};
 ghost use lib.ListN.{length};
-ghost use Rattle.values.specs.Column.{loaded};
-ghost use Rattle.steps.specs.Alter.{Suits, putBlock};
 ghost use Rattle.steps.specs.Entry.{validByte, validColumn, enteredLoad};
+ghost use Rattle.steps.specs.Spread.{Blocks, packedWords, loadedWords};
 use crate::entry::Entry;
 use crate::entry::Plan;
 use crate::entry::ask;
 use crate::entry::enter_index;
 use crate::header::header_for;
+use crate::spread::spread;
 use answers::Refusal;
 use std::num::wrapping_add_u8;
-use values::column::load_block;
+use values::column::pack_block;
+use words::rows::groups_for;
 
 // A byte and 1, where 255 becomes 0: it is at most d just where the byte is below d or is 255.
 pub fn following(byte: u8) -> u8
@@ -63,12 +64,26 @@ pub fn enter_load(
     ask(valid, Refusal::Full, (rows as usize) < column.len())
 }
 
-// Writes the block of one value.
-pub fn load_value(words: &mut [u32], column: &[u8], plan: Plan, value: u32)
-    requires { ⌜ Suits plan (length (now words)) value × (length (now column) ≤ plan .shape .rows) × (value < 64) ⌝ }
-    ensures { λ _. ⌜ now (words .exit) ≡ putBlock plan (now (words .entry)) value (loaded (plan .shape) value (now (column .entry))) ⌝ }
+// Packs the block of each value from the groups that stand first in its V.
+fn pack_blocks(words: &mut [u32], plan: Plan, values: u32, filled: usize)
+    requires { ⌜ Blocks plan values (length (now words)) × (filled ≤ plan .shape .groups) ⌝ }
+    ensures { λ _. ⌜ now (words .exit) ≡ packedWords (plan .shape) filled values (now (words .entry)) ⌝ }
 {
-    let at = value as usize * plan.block;
     let shape = plan.shape;
-    load_block(words, at, shape, column, value as u8);
+    let mut at: usize = 0;
+    let mut value: u32 = 0;
+    while value < values {
+        pack_block(words, at, shape, filled);
+        at += plan.block;
+        value += 1;
+    }
+}
+
+// Writes the blocks of all values: one pass over the column, and one over the groups of each value.
+pub fn load_blocks(words: &mut [u32], column: &[u8], plan: Plan, values: u32)
+    requires { ⌜ Blocks plan values (length (now words)) × (values ≤ 64) × (length (now column) ≤ plan .shape .rows) ⌝ }
+    ensures { λ _. ⌜ now (words .exit) ≡ loadedWords (plan .shape) (now (column .entry)) values (now (words .entry)) ⌝ }
+{
+    spread(words, column, plan, values);
+    pack_blocks(words, plan, values, groups_for(column.len()));
 }

@@ -1,11 +1,11 @@
 -- What a column's value is loaded as: its list, row by row, and its block. Assumes nothing.
-use mathlib.Core.Path.{_≡_, _∙_, ap}
+use mathlib.Core.Path.{_≡_, refl, _∙_, ap}
 use mathlib.Core.Bool.{true, cond}
 use mathlib.Core.List.{List}
-use Prim.Native.Nat.{ℕ, _<_, _≤_}
+use Prim.Native.Nat.{ℕ, _+_, _-_, _<_, _≤_}
 use native.Mathlib.Omega.{arith}
 use lib.Dec.{eqb}
-use lib.ListN.{length, getD, List·getD-eq-default}
+use lib.ListN.{length, getD, take, drop, length-take, List·getD-eq-default}
 use Rattle.words.specs.Rows.{groupsFor, groupsOf, rowAt, clearFrom}
 use Rattle.words.specs.Words.{decode, encode, canonical}
 use Rattle.words.proofs.Canonical.{parts-canonical}
@@ -15,13 +15,15 @@ use Rattle.words.proofs.RowsBack.{rowAt-groupsOf}
 use Rattle.words.proofs.Size.{encode-length}
 use Rattle.words.proofs.Tail.{rowAt-clearFrom}
 use Rattle.blocks.specs.Shape.{Limits, updateRoom, blockSize}
-use Rattle.blocks.specs.Block.{current, padded, zeroList}
+use Rattle.blocks.specs.Block.{part, valueWords, current, padded, zeroList}
 use Rattle.blocks.specs.Whole.{updateOnes, wholeLists}
-use Rattle.values.specs.Column.{rowsWith, groupsWith, listFor, loaded}
+use Rattle.values.specs.Column.{rowsWith, groupsWith, listFor, loaded, packedList, packedBlock}
 use Rattle.blocks.specs.declared.shape.Shape.{Shape}
 use Rattle.blocks.proofs.Blocks.{ValueIs, UpdateIs}
 use Rattle.values.proofs.EmptyUpdates.{length-emptied, value-emptied, update-emptied, ones-emptied, current-emptied, whole-emptied}
+use Rattle.blocks.proofs.Parts.{part-slice, take-part, part-part}
 use Rattle.blocks.proofs.Rooms.{length-padded}
+use Rattle.values.proofs.column.Loop.{list-fits}
 use Rattle.values.proofs.column.Rows.{length-rowsWith, getD-rowsWith, rowsWith-bits, cut-padded, getD-padded}
 
 module _ (shape : Shape) (limits : Limits shape) (value : ℕ) (column : List ℕ) (few : length column ≤ shape .rows) where
@@ -116,3 +118,34 @@ module _ (shape : Shape) (limits : Limits shape) (value : ℕ) (column : List �
 
   pub row-past-loaded : (row : ℕ) → length column ≤ row → rowAt (current shape (loaded shape value column)) row ≡ 0
   row-past-loaded row h = rw current-loaded (row-past row h)
+
+  -- THEOREM: the block is packed from the groups of the column where they stand in V's words
+  pub packed-loaded : (block : List ℕ) → take (groupsFor (length column)) (valueWords shape block) ≡ groupsOf (rowsWith value column)
+      → packedBlock shape (groupsFor (length column)) block ≡ loaded shape value column
+  unfolding packedBlock packedList loaded listFor
+  packed-loaded block stands = rw (stands, ← same) refl
+
+-- ---- a block that is packed from the groups that stand first in V's words
+
+module _ (shape : Shape) (filled : ℕ) where
+  pub length-packedList : (block : List ℕ) → filled ≤ shape .groups → length (packedList shape filled block) ≤ shape .groups
+  unfolding packedList
+  length-packedList block few =
+      let groups = take filled (valueWords shape block) in
+      list-fits (shape .groups) groups (omega (arith, length-take filled (valueWords shape block)))
+
+  pub length-packedBlock : (block : List ℕ) → Limits shape → filled ≤ shape .groups → length (packedBlock shape filled block) ≡ blockSize shape
+  unfolding packedBlock
+  length-packedBlock block limits few = length-emptied shape limits (packedList shape filled block) (length-packedList block few)
+
+  -- the groups as a slice has them
+  pub filled-part : (words : List ℕ) (at : ℕ) → filled ≤ shape .groups
+      → take filled (valueWords shape (part words at (blockSize shape))) ≡ part words (at + 2) filled
+  unfolding valueWords
+  filled-part words at few =
+      rw (part-part words at (blockSize shape) 2 (shape .groups) (omega arith)) (take-part words (at + 2) (shape .groups) filled few)
+
+  pub packed-slice : (words : List ℕ) (at : ℕ) → filled ≤ shape .groups
+      → packedList shape filled (part words at (blockSize shape)) ≡ encode (padded (shape .groups) (take (at + 2 + filled - (at + 2)) (drop (at + 2) words)))
+  unfolding packedList
+  packed-slice words at few = rw (filled-part words at few, part-slice words (at + 2) filled (at + 2) (at + 2 + filled) refl (omega arith)) refl

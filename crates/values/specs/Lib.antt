@@ -3,3 +3,4 @@ pub mod Change
 pub mod Column
 pub mod Dump
 pub mod Audit
+pub mod Listing

@@ -1,5 +1,5 @@
-// One value's part of each call, on its block: V xor U as a list, a merge and a flip, the lists of a
-// column's rows, the rows of a dump, and what an audit looks at.
+// One value's part of each call, on its block: V xor U as a list, a merge and a flip, the list of a
+// column's groups, the rows of a dump, and what an audit looks at.
 //
 // Below stands `blocks`, which knows where a block has its lists; above it `steps`, which has the header
 // and the refusals.

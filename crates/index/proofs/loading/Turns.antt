@@ -1,22 +1,26 @@
--- One turn of loading: the block of a value, and its fences behind it. Assumes nothing.
-use mathlib.Core.Path.{_≡_, refl, _∙_}
+-- Loading: the blocks of all values are written, and then the fences of one value a turn, which are those made right behind its block. Assumes nothing.
+use mathlib.Core.Path.{_≡_, refl, _∙_, sym}
 use mathlib.Core.Bool.{true}
 use mathlib.Core.List.{List}
-use Prim.Native.Nat.{ℕ, _+_, _<_, _≤_}
+use Prim.Native.Nat.{ℕ, zero, suc, _+_, _*_, _<_, _≤_}
+use native.Mathlib.Nat.{suc-mul}
 use native.Mathlib.Omega.{arith}
 use lib.ListN.{length}
-use Rattle.blocks.specs.Block.{valueLength}
+use Rattle.blocks.specs.Shape.{blockSize}
+use Rattle.blocks.specs.Block.{write, valueLength}
+use Rattle.blocks.proofs.Sizes.{place-fits}
 use Rattle.values.specs.Column.{loaded}
-use Rattle.values.proofs.Columns.{length-loaded, whole-loaded}
+use Rattle.values.proofs.Columns.{whole-loaded}
 use Rattle.steps.specs.Entry.{Planned}
-use Rattle.steps.specs.Alter.{Suits, Fenced, blockIn, putBlock, isWhole, renewedFences}
-use Rattle.steps.specs.Memory.{Memory, memoryOf, blockAt}
+use Rattle.steps.specs.Alter.{Fenced, blockIn, isWhole, renewedFences}
+use Rattle.steps.specs.Memory.{Memory, memoryOf, shapeOf, blockAt}
+use Rattle.steps.specs.Spread.{Blocks, loadedWords}
 use Rattle.index.specs.Calls.{withBlock, renewed, loadedIn}
 use Rattle.steps.specs.declared.header.Header.{Header}
 use Rattle.steps.specs.declared.header.Fence.{Fence}
 use Rattle.steps.specs.declared.entry.Plan.{Plan}
-use Rattle.steps.proofs.Altering.{put-block}
-use Rattle.index.proofs.Planning.{one-more, numbers, suits, fenced}
+use Rattle.steps.proofs.Loading.{loads-none, loads-next, loads-block}
+use Rattle.index.proofs.Planning.{one-more, numbers, limits, fenced}
 use Rattle.index.proofs.changing.Steps.{whole-short, still-fenced}
 
 module _ {header : Header} {plan : Plan} (words : List ℕ) (fences : List Fence) (column : List ℕ)
@@ -28,36 +32,52 @@ module _ {header : Header} {plan : Plan} (words : List ℕ) (fences : List Fence
   abbrev pub loadedTo : ℕ → Memory
   loadedTo value = loadedIn header column value memory
 
-  module _ (value : ℕ) (below : value < header .values) (now : List ℕ) (many : length now ≡ length words) where
-    here : Suits plan (length now) value
-    here = rw many (suits is value below)
+  pub load-asks : Blocks plan (header .values) (length words) × (header .values ≤ 64) × (length column ≤ plan .shape .rows)
+  load-asks = (
+    rw (is .planned) (record { limits = limits is; block = refl; lent = is .words-lent }),
+    numbers is .fewValues,
+    rw (is .planned) few,
+  )
 
-    pub load-asks : Suits plan (length now) value × (length column ≤ plan .shape .rows) × (value < 64)
-    load-asks = (here, rw (is .planned) few, omega (arith, below, numbers is .fewValues))
+  -- ---- the words
 
-    abbrev block : List ℕ
-    block = loaded (plan .shape) value column
+  words-to : (value : ℕ) → loadedTo value .words ≡ loadedWords (shapeOf header) column value words
+  unfolding renewed withBlock
+  words-to zero = sym (loads-none (shapeOf header) (limits is) column few words)
+  words-to (suc value) = rw (words-to value) (loads-next (shapeOf header) (limits is) column few words value)
 
-    fits : length column ≤ plan .shape .rows
-    fits = rw (is .planned) few
+  -- the block that was put last is read back
+  last-block : (value : ℕ) → value < header .values
+      → blockAt header (write (loadedTo value .words) (value * blockSize (shapeOf header)) (loaded (shapeOf header) value column)) value
+      ≡ loaded (shapeOf header) value column
+  unfolding blockAt
+  last-block value below =
+      let size = blockSize (shapeOf header) in
+      let room : suc value * size ≤ length words = omega (arith, suc-mul value size, place-fits size value (header .values) below, is .words-lent) in
+      rw (words-to value, loads-next (shapeOf header) (limits is) column few words value)
+      (loads-block (shapeOf header) (limits is) column few words (suc value) room value (omega arith))
 
-    module _ (left : List ℕ) (long : length left ≡ length words) (writes : left ≡ putBlock plan now value block)
-        (records : List Fence) (as-many : length records ≡ length fences) where
+  module _ (left : List ℕ) (long : length left ≡ length words) (loads : left ≡ loadedWords (plan .shape) column (header .values) words) where
+    pub words-done : left ≡ loadedTo (header .values) .words
+    words-done = loads ∙ rw (is .planned) (sym (words-to (header .values)))
+
+    -- ---- a turn
+
+    module _ (value : ℕ) (below : value < header .values) (records : List Fence) where
+      block-is : blockIn plan left value ≡ loaded (shapeOf header) value column
+      block-is = rw (loads, is .planned) (loads-block (shapeOf header) (limits is) column few words (header .values) (is .words-lent) value below)
+
       intact : isWhole plan left value ≡ true
-      intact =
-          let size = length-loaded (plan .shape) (here .limits) value column fits in
-          rw (writes, put-block plan now value here block size) (whole-loaded (plan .shape) (here .limits) value column fits)
+      intact = rw (block-is, is .planned) (whole-loaded (shapeOf header) (limits is) value column few)
 
-      pub renew-asks : Fenced plan (length left) (length records) value × (valueLength (blockIn plan left value) ≤ plan .shape .groups)
-      renew-asks = (
+      pub renew-asks : length records ≡ length fences
+          → Fenced plan (length left) (length records) value × (valueLength (blockIn plan left value) ≤ plan .shape .groups)
+      renew-asks as-many = (
         still-fenced (length words) (length left) (length fences) (length records) long as-many (fenced is value below),
         whole-short plan left value intact,
       )
 
-      -- the turn
-      pub loads : now ≡ loadedTo value .words → records ≡ loadedTo value .fences
-          → (remade : List Fence) → remade ≡ renewedFences plan left records value
-          → (left ≡ loadedTo (value + 1) .words) × (remade ≡ loadedTo (value + 1) .fences)
-      unfolding renewed withBlock blockAt renewedFences
-      loads words-are fences-are remade makes =
-          rw (one-more value) (writes ∙ rw (is .planned, words-are) refl, makes ∙ rw (writes, is .planned, words-are, fences-are) refl)
+      pub renews : records ≡ loadedTo value .fences → (remade : List Fence) → remade ≡ renewedFences plan left records value
+          → remade ≡ loadedTo (value + 1) .fences
+      unfolding renewed withBlock renewedFences
+      renews fences-are remade makes = makes ∙ rw (block-is, is .planned, fences-are, one-more value, last-block value below) refl

@@ -42,10 +42,10 @@ use denote.Triple.Walked.{says, needs, Stays, stay-slice, stay-dropped, walkOf, 
 use Rattle.steps.specs.Entry.{Planned}
 use Rattle.steps.specs.Memory.{memoryOf}
 use Rattle.index.specs.Calls.{loadedIn}
-use Rattle.index.proofs.loading.Turns.{loadedTo, load-asks, renew-asks, loads}
-use Rattle.values.specs.Column.{loaded}
-use Rattle.steps.specs.Alter.{Suits, putBlock, Fenced, blockIn, renewedFences}
+use Rattle.index.proofs.loading.Turns.{loadedTo, load-asks, words-done, renew-asks, renews}
+use Rattle.steps.specs.Spread.{Blocks, loadedWords}
 use Rattle.blocks.specs.Block.{valueLength}
+use Rattle.steps.specs.Alter.{Fenced, blockIn, renewedFences}
 use Rattle.steps.specs.declared.header.Fence.{Fence}
 use Rattle.steps.proofs.header.Fence as Fence-T
 use Rattle.steps.specs.declared.header.Header.{Header}
@@ -57,10 +57,10 @@ use Rattle.steps.proofs.entry.Plan.Laws as Plan-L
 use Rattle.walks.proofs.Lend.{ref}
 use Rattle.walks.proofs.Flow.{Nearer, Nearer-wf, while-loops, assigns-again, frees-all, below-word, next-le, next-nearer}
 use Rattle.walks.proofs.Calls.{contractOf, calls-mut-shr, calls-view-mut}
-use Rattle.steps.proofs.column.load_value as load-value-F
-use Rattle.steps.proofs.column.load_value.Symbol as load-value-def
-use Rattle.steps.proofs.column.load_value.Symbol.{name as #steps·load-value}
-use Rattle.steps.proofs.column.load_value.Met as load-value-thm
+use Rattle.steps.proofs.column.load_blocks as load-blocks-F
+use Rattle.steps.proofs.column.load_blocks.Symbol as load-blocks-def
+use Rattle.steps.proofs.column.load_blocks.Symbol.{name as #steps·load-blocks}
+use Rattle.steps.proofs.column.load_blocks.Met as load-blocks-thm
 use Rattle.index.proofs.fences.renew as renew-F
 use Rattle.index.proofs.fences.renew.Symbol as renew-def
 use Rattle.index.proofs.fences.renew.Symbol.{name as #index·renew}
@@ -71,20 +71,17 @@ use Rattle.index.proofs.loading.load_values.Statement as stated
 use Rattle.index.proofs.loading.load_values.Code as code
 
 -- ---- what the author says, at each place
-loop-start : (words : List ℕ) (fences : List Fence) (column : List ℕ) (header : Header) (plan : Plan) (req : Planned header plan (length words) (length fences) × (length column ≤ header .rows)) → (words ≡ loadedTo words fences column (req .0) (req .1) 0 .words) × (fences ≡ loadedTo words fences column (req .0) (req .1) 0 .fences)
-loop-start words fences column header plan req = (refl, refl)
+call-1 : (words : List ℕ) (fences : List Fence) (column : List ℕ) (header : Header) (plan : Plan) (req : Planned header plan (length words) (length fences) × (length column ≤ header .rows)) → Blocks plan (header .values) (length words) × ((header .values) ≤ 64) × (length column ≤ plan .shape .rows)
+call-1 words fences column header plan req = load-asks words fences column (req .0) (req .1)
 
-call-1 : (words : List ℕ) (fences : List Fence) (column : List ℕ) (header : Header) (plan : Plan) (req : Planned header plan (length words) (length fences) × (length column ≤ header .rows)) (value : ℕ) (now-words : List ℕ) (n-now-words : length now-words ≡ length words) (less : value < (header .values)) → Suits plan (length now-words) value × (length column ≤ plan .shape .rows) × (value < 64)
-call-1 words fences column header plan req value now-words n-now-words less = load-asks words fences column (req .0) (req .1) value less now-words n-now-words
+call-2 : (words : List ℕ) (fences : List Fence) (column : List ℕ) (header : Header) (plan : Plan) (req : Planned header plan (length words) (length fences) × (length column ≤ header .rows)) (words1 : List ℕ) (n-words1 : length words1 ≡ length words) (e1 : words1 ≡ loadedWords (plan .shape) column (header .values) words) (value : ℕ) (now-fences : List Fence) (n-now-fences : length now-fences ≡ length fences) (less : value < (header .values)) → Fenced plan (length words1) (length now-fences) value × (valueLength (blockIn plan words1 value) ≤ plan .shape .groups)
+call-2 words fences column header plan req words1 n-words1 e1 value now-fences n-now-fences less = renew-asks words fences column (req .0) (req .1) words1 n-words1 e1 value less now-fences n-now-fences
 
-call-2 : (words : List ℕ) (fences : List Fence) (column : List ℕ) (header : Header) (plan : Plan) (req : Planned header plan (length words) (length fences) × (length column ≤ header .rows)) (value : ℕ) (now-words : List ℕ) (now-fences : List Fence) (n-now-words : length now-words ≡ length words) (n-now-fences : length now-fences ≡ length fences) (less : value < (header .values)) (words1 : List ℕ) (n-words1 : length words1 ≡ length words) (e1 : words1 ≡ putBlock plan now-words value (loaded (plan .shape) value column)) → Fenced plan (length words1) (length now-fences) value × (valueLength (blockIn plan words1 value) ≤ plan .shape .groups)
-call-2 words fences column header plan req value now-words now-fences n-now-words n-now-fences less words1 n-words1 e1 = renew-asks words fences column (req .0) (req .1) value less now-words n-now-words words1 n-words1 e1 now-fences n-now-fences
+loop-keep : (words : List ℕ) (fences : List Fence) (column : List ℕ) (header : Header) (plan : Plan) (req : Planned header plan (length words) (length fences) × (length column ≤ header .rows)) (words1 : List ℕ) (n-words1 : length words1 ≡ length words) (e1 : words1 ≡ loadedWords (plan .shape) column (header .values) words) (value : ℕ) (now-fences : List Fence) (inv : now-fences ≡ loadedTo words fences column (req .0) (req .1) value .fences) (less : value < (header .values)) (fences2 : List Fence) (e2 : fences2 ≡ renewedFences plan words1 now-fences value) → fences2 ≡ loadedTo words fences column (req .0) (req .1) (value + 1) .fences
+loop-keep words fences column header plan req words1 n-words1 e1 value now-fences inv less fences2 e2 = renews words fences column (req .0) (req .1) words1 n-words1 e1 value less now-fences inv fences2 e2
 
-loop-keep : (words : List ℕ) (fences : List Fence) (column : List ℕ) (header : Header) (plan : Plan) (req : Planned header plan (length words) (length fences) × (length column ≤ header .rows)) (value : ℕ) (now-words : List ℕ) (now-fences : List Fence) (n-now-words : length now-words ≡ length words) (n-now-fences : length now-fences ≡ length fences) (inv : (now-words ≡ loadedTo words fences column (req .0) (req .1) value .words) × (now-fences ≡ loadedTo words fences column (req .0) (req .1) value .fences)) (less : value < (header .values)) (words1 : List ℕ) (n-words1 : length words1 ≡ length words) (e1 : words1 ≡ putBlock plan now-words value (loaded (plan .shape) value column)) (fences2 : List Fence) (e2 : fences2 ≡ renewedFences plan words1 now-fences value) → (words1 ≡ loadedTo words fences column (req .0) (req .1) (value + 1) .words) × (fences2 ≡ loadedTo words fences column (req .0) (req .1) (value + 1) .fences)
-loop-keep words fences column header plan req value now-words now-fences n-now-words n-now-fences inv less words1 n-words1 e1 fences2 e2 = loads words fences column (req .0) (req .1) value less now-words n-now-words words1 n-words1 e1 now-fences n-now-fences (inv .0) (inv .1) fences2 e2
-
-exit-1 : (words : List ℕ) (fences : List Fence) (column : List ℕ) (header : Header) (plan : Plan) (req : Planned header plan (length words) (length fences) × (length column ≤ header .rows)) (value : ℕ) (now-words : List ℕ) (now-fences : List Fence) (inv : (now-words ≡ loadedTo words fences column (req .0) (req .1) value .words) × (now-fences ≡ loadedTo words fences column (req .0) (req .1) value .fences)) (all : value ≡ (header .values)) → (now-words ≡ loadedIn header column (header .values) (memoryOf words fences) .words) × (now-fences ≡ loadedIn header column (header .values) (memoryOf words fences) .fences)
-exit-1 words fences column header plan req value now-words now-fences inv all = (inv .0 ∙ ap (λ (v : ℕ). loadedTo words fences column (req .0) (req .1) v .words) all, inv .1 ∙ ap (λ (v : ℕ). loadedTo words fences column (req .0) (req .1) v .fences) all)
+exit-1 : (words : List ℕ) (fences : List Fence) (column : List ℕ) (header : Header) (plan : Plan) (req : Planned header plan (length words) (length fences) × (length column ≤ header .rows)) (words1 : List ℕ) (n-words1 : length words1 ≡ length words) (e1 : words1 ≡ loadedWords (plan .shape) column (header .values) words) (value : ℕ) (now-fences : List Fence) (inv : now-fences ≡ loadedTo words fences column (req .0) (req .1) value .fences) (all : value ≡ (header .values)) → (words1 ≡ loadedIn header column (header .values) (memoryOf words fences) .words) × (now-fences ≡ loadedIn header column (header .values) (memoryOf words fences) .fences)
+exit-1 words fences column header plan req words1 n-words1 e1 value now-fences inv all = (words-done words fences column (req .0) (req .1) words1 n-words1 e1, inv ∙ ap (λ (v : ℕ). loadedTo words fences column (req .0) (req .1) v .fences) all)
 
 abbrev stayed : Stays (load-values-F.ended .signature .params) (load-values-F.ended .kept)
 stayed = (stay-slice (0 ∷ []) tt (plain (λ _. u32)), (stay-slice (1 ∷ []) tt (plain (λ _. Fence-T.the-row)), (stay-dropped (shrSliceOf (2 ∷ []) tt (plain (λ _. u8))) yes, (stay-dropped (plain (λ _. Header-T.the-row)) yes, (stay-dropped (plain (λ _. Plan-T.the-row)) yes, tt)))))
@@ -111,61 +108,62 @@ module _ {M : Type 1} (𝓤 : URA M) (H : Heap 𝓤) (A : Atoms 𝓤) (W : Given
       suffices ! _ (ends-at 𝓤 H A load-values-F.ended stayed (load-values-F.clauses 𝓤 H A mem run) W bound-of vunit tt (words′, (fences′, (tt, (tt, (tt, tt))))) (n-words′, (n-fences′, (tt, (tt, (tt, tt)))))) $ says ! e $
       nothing ! $ move ! (5 ∷ 0 ∷ []) $ join ! $ move ! (3 ∷ 0 ∷ []) $ join ! $ move ! (1 ∷ 0 ∷ []) $ join ! $ frame ! $ nothing ! $ nothing ! $ fjoin ! $ nothing ! $ fjoin ! $ nothing ! $ fjoin ! $ move ! (2 ∷ 0 ∷ []) $ fjoin ! $ move ! (1 ∷ 0 ∷ []) $ fjoin ! $ frame ! $ feqI ! (List Val) (vunit ∷ []) (vunit ∷ []) refl $ done !
 
-  module _ (𝓣 : Tables 𝓤 H) (fm : FmC 𝓤 H (W .laws) (𝓣 .C)) (known-load-value : Triple 𝓤 (𝓣 .C #steps·load-value) (contractOf 𝓤 H A load-value-F.ended (load-value-F.clauses 𝓤 H A mem run))) (known-renew : Triple 𝓤 (𝓣 .C #index·renew) (contractOf 𝓤 H A renew-F.ended (renew-F.clauses 𝓤 H A mem run))) where
+  module _ (𝓣 : Tables 𝓤 H) (fm : FmC 𝓤 H (W .laws) (𝓣 .C)) (known-load-blocks : Triple 𝓤 (𝓣 .C #steps·load-blocks) (contractOf 𝓤 H A load-blocks-F.ended (load-blocks-F.clauses 𝓤 H A mem run))) (known-renew : Triple 𝓤 (𝓣 .C #index·renew) (contractOf 𝓤 H A renew-F.ended (renew-F.clauses 𝓤 H A mem run))) where
     walk : Room u32 (length words) → Room Fence-T.the-row (length fences) → Room u8 (length column) → Is Header-T.the-row header (SL.vals Header-T.the-type Header-L.the-laws header) → Is Plan-T.the-row plan (SL.vals Plan-T.the-type Plan-L.the-laws plan) → Planned header plan (length words) (length fences) × (length column ≤ header .rows) → ent 𝓤 (onEntry 𝓤 H A load-values-F.signature (κ₀, (κ₁, (κ₂, tt))) (q₀, (q₁, (q₂, tt))) args-of vals-of) (WpFn 𝓤 H (𝓣 .C) (𝓣 .Λ) code.function (sliceVal (b₀, o₀) (length words) ∷ sliceVal (b₁, o₁) (length fences) ∷ sliceVal (b₂, o₂) (length column) ∷ SL.val Header-T.the-type Header-L.the-laws header ∷ SL.val Plan-T.the-type Plan-L.the-laws plan ∷ []) Post)
     walk room-words room-fences room-column is-header is-plan req =
         qed W ((‵ (flft κ₀ q₀) ⊛ (‵ (flft κ₁ q₁) ⊛ (‵ (flft κ₂ q₂) ⊛ ‵ ftrue))) ∷ ‵ (owns (MutSlice (named 0) κ₀ u32 ∷ MutSlice (named 1) κ₁ Fence-T.the-row ∷ ShrSlice (named 2) κ₂ u8 ∷ Header-T.the-row ∷ Plan-T.the-row ∷ []) args-of vals-of) ∷ []) ∵ enter ! (𝓣 .C) (𝓣 .Λ) code.function (sliceVal (b₀, o₀) (length words) ∷ sliceVal (b₁, o₁) (length fences) ∷ sliceVal (b₂, o₂) (length column) ∷ SL.val Header-T.the-type Header-L.the-laws header ∷ SL.val Plan-T.the-type Plan-L.the-laws plan ∷ []) _ $
-        alloc1 ! (λ l₀. alloc1 ! (λ l₁. alloc1 ! (λ l₂. alloc1 ! (λ l₃. alloc1 ! (λ l₄. alloc1 ! (λ l₅. alloc1 ! (λ l₆. alloc1 ! (λ l₇. alloc1 ! (λ l₈. alloc1 ! (λ l₉. alloc1 ! (λ l₁₀. alloc1 ! (λ l₁₁. alloc1 ! (λ l₁₂. alloc1 ! (λ l₁₃. alloc1 ! (λ l₁₄. alloc0 ! $ params1 ! $
-        pass1 ! (init ! 26 refl (tt, (tt, (record { fits = room-words .0 }, tt)))) $ pass1 ! (init ! 24 refl (tt, (tt, (record { fits = room-fences .0 }, tt)))) $ pass1 ! (init ! 22 refl (tt, (tt, (record { fits = room-column .0 }, tt)))) $ pass1 ! (init ! 20 refl (SL.lawful Header-T.the-type Header-L.the-laws 𝓤 H A W .typed header (SL.vals Header-T.the-type Header-L.the-laws header) is-header .0)) $ pass1 ! (init ! 18 refl (SL.lawful Plan-T.the-type Plan-L.the-laws 𝓤 H A W .typed plan (SL.vals Plan-T.the-type Plan-L.the-laws plan) is-plan .0)) $ pass0 ! $
-        move ! (31 ∷ []) $ fsplit ! $ move ! (1 ∷ []) $ fsplit ! $ move ! (1 ∷ []) $ fsplit ! $ move ! (1 ∷ []) $ fsplit ! $ drop ! $ fsplit ! $ drop ! $ drop ! $ move ! (33 ∷ []) $ split ! $ move ! (1 ∷ []) $ split ! $ move ! (1 ∷ []) $ split ! $ move ! (1 ∷ []) $ drop ! $ move ! (2 ∷ 5 ∷ 1 ∷ 4 ∷ 0 ∷ 3 ∷ []) $
-        -- [words's token; words; fences's token; fences; column's token; column; _14; …; _0; …]
-        assigns ! (of-opd ! (lit ! tt)) (from ! (stop !)) (init ! 22 refl (tt, record { fits = (lit< tt) })) $
-        let X : Type 0 = (value : ℕ) × ((now-words : List ℕ) × ((now-fences : List Fence) × ((value ≤ (header .values)) × ((length now-words ≡ length words) × ((length now-fences ≡ length fences) × ((now-words ≡ loadedTo words fences column (req .0) (req .1) value .words) × (now-fences ≡ loadedTo words fences column (req .0) (req .1) value .fences))))))) in
-        let At : X → List (Item 𝓤) = λ x. ‵ (flft κ₀ q₀) ∷ ‵ (MutSlice (named 0) κ₀ u32 .own (ref b₀ o₀ γ₀ (x .1 .0)) (sliceVal (b₀, o₀) (length words) ∷ [])) ∷ ‵ (flft κ₁ q₁) ∷ ‵ (MutSlice (named 1) κ₁ Fence-T.the-row .own (ref b₁ o₁ γ₁ (x .1 .1 .0)) (sliceVal (b₁, o₁) (length fences) ∷ [])) ∷ ‵ (flft κ₂ q₂) ∷ ‵ (ShrSlice (named 2) κ₂ u8 .own (ref b₂ o₂ γ₂ column) (sliceVal (b₂, o₂) (length column) ∷ [])) ∷ ‵ (froom (sliceTy (tyRef erased mut (pointee (Fence-T.the-row .written)))) l₁₄ 0) ∷ ‵ (fdies (sliceTy (tyRef erased mut (pointee (Fence-T.the-row .written)))) l₁₄) ∷ ‵ (froom (tyRef erased mut (pointee (Fence-T.the-row .written))) l₁₃ 0) ∷ ‵ (fdies (tyRef erased mut (pointee (Fence-T.the-row .written))) l₁₃) ∷ ‵ (froom (sliceTy (tyRef erased imm (tyInt w32))) l₁₂ 0) ∷ ‵ (fdies (sliceTy (tyRef erased imm (tyInt w32))) l₁₂) ∷ ‵ (froom (tyRef erased imm (tyInt w32)) l₁₁ 0) ∷ ‵ (fdies (tyRef erased imm (tyInt w32)) l₁₁) ∷ ‵ (froom (sliceTy (tyRef erased mut (tyInt w32))) l₁₀ 0) ∷ ‵ (fdies (sliceTy (tyRef erased mut (tyInt w32))) l₁₀) ∷ ‵ (froom (tyRef erased mut (tyInt w32)) l₉ 0) ∷ ‵ (fdies (tyRef erased mut (tyInt w32)) l₉) ∷ ‵ (froom (tyUnit) l₈ 0) ∷ ‵ (fdies (tyUnit) l₈) ∷ ‵ (froom (tyBool) l₇ 0) ∷ ‵ (fdies (tyBool) l₇) ∷ ‵ (fat fullShare (tyInt w32) l₆ 0 (vint w32 (x .0))) ∷ ‵ (fdies (tyInt w32) l₆) ∷ ‵ (fat fullShare (Plan-L.mir) l₅ 0 (SL.val Plan-T.the-type Plan-L.the-laws plan)) ∷ ‵ (fdies (Plan-L.mir) l₅) ∷ ‵ (fat fullShare (Header-L.mir) l₄ 0 (SL.val Header-T.the-type Header-L.the-laws header)) ∷ ‵ (fdies (Header-L.mir) l₄) ∷ ‵ (fat fullShare (sliceTy (tyRef (named 2) imm (tyInt w8))) l₃ 0 (sliceVal (b₂, o₂) (length column))) ∷ ‵ (fdies (sliceTy (tyRef (named 2) imm (tyInt w8))) l₃) ∷ ‵ (fat fullShare (sliceTy (tyRef (named 1) mut (pointee (Fence-T.the-row .written)))) l₂ 0 (sliceVal (b₁, o₁) (length fences))) ∷ ‵ (fdies (sliceTy (tyRef (named 1) mut (pointee (Fence-T.the-row .written)))) l₂) ∷ ‵ (fat fullShare (sliceTy (tyRef (named 0) mut (tyInt w32))) l₁ 0 (sliceVal (b₀, o₀) (length words))) ∷ ‵ (fdies (sliceTy (tyRef (named 0) mut (tyInt w32))) l₁) ∷ ‵ (froom (tyUnit) l₀ 0) ∷ ‵ (fdies (tyUnit) l₀) ∷ [] in
-        while-loops ! 𝓣 (Nearer (λ (x : X). x .0) (header .values)) (Nearer-wf (λ (x : X). x .0) (header .values)) At (λ x whiles.
-        assigns ! (bin ! (load ! (from ! (stop !)) (look ! 22 refl)) (load ! (from ! (fld ! refl (stop !))) (look-in ! 26 (sub ! 2 refl (whole !)))) tt) (from ! (stop !)) (init ! 20 refl (tt, tt)) $
-        whiles _ _ (load ! (from ! (stop !)) (look ! 20 refl))
-        (λ less-h.
-        assigns ! (addr ! (from ! (fld ! refl (hop ! (look-in ! 32 (sub ! 0 refl (whole !))) (stop !))))) (from ! (stop !)) (init ! 16 refl (tt, tt)) $
-        assigns ! (agg ! (and-then ! (load ! (from ! (stop !)) (look ! 16 refl)) (and-then ! (load ! (from ! (fld ! refl (stop !))) (look-in ! 32 (sub ! 1 refl (whole !)))) (no-more !)))) (from ! (stop !)) (init ! 14 refl (tt, (tt, (record { fits = room-words .0 }, tt)))) $
+        alloc1 ! (λ l₀. alloc1 ! (λ l₁. alloc1 ! (λ l₂. alloc1 ! (λ l₃. alloc1 ! (λ l₄. alloc1 ! (λ l₅. alloc1 ! (λ l₆. alloc1 ! (λ l₇. alloc1 ! (λ l₈. alloc1 ! (λ l₉. alloc1 ! (λ l₁₀. alloc1 ! (λ l₁₁. alloc1 ! (λ l₁₂. alloc1 ! (λ l₁₃. alloc1 ! (λ l₁₄. alloc1 ! (λ l₁₅. alloc0 ! $ params1 ! $
+        pass1 ! (init ! 28 refl (tt, (tt, (record { fits = room-words .0 }, tt)))) $ pass1 ! (init ! 26 refl (tt, (tt, (record { fits = room-fences .0 }, tt)))) $ pass1 ! (init ! 24 refl (tt, (tt, (record { fits = room-column .0 }, tt)))) $ pass1 ! (init ! 22 refl (SL.lawful Header-T.the-type Header-L.the-laws 𝓤 H A W .typed header (SL.vals Header-T.the-type Header-L.the-laws header) is-header .0)) $ pass1 ! (init ! 20 refl (SL.lawful Plan-T.the-type Plan-L.the-laws 𝓤 H A W .typed plan (SL.vals Plan-T.the-type Plan-L.the-laws plan) is-plan .0)) $ pass0 ! $
+        move ! (33 ∷ []) $ fsplit ! $ move ! (1 ∷ []) $ fsplit ! $ move ! (1 ∷ []) $ fsplit ! $ move ! (1 ∷ []) $ fsplit ! $ drop ! $ fsplit ! $ drop ! $ drop ! $ move ! (35 ∷ []) $ split ! $ move ! (1 ∷ []) $ split ! $ move ! (1 ∷ []) $ split ! $ move ! (1 ∷ []) $ drop ! $ move ! (2 ∷ 5 ∷ 1 ∷ 4 ∷ 0 ∷ 3 ∷ []) $
+        -- [words's token; words; fences's token; fences; column's token; column; _15; …; _0; …]
+        assigns ! (addr ! (from ! (fld ! refl (hop ! (look-in ! 34 (sub ! 0 refl (whole !))) (stop !))))) (from ! (stop !)) (init ! 20 refl (tt, tt)) $
+        assigns ! (agg ! (and-then ! (load ! (from ! (stop !)) (look ! 20 refl)) (and-then ! (load ! (from ! (fld ! refl (stop !))) (look-in ! 34 (sub ! 1 refl (whole !)))) (no-more !)))) (from ! (stop !)) (init ! 18 refl (tt, (tt, (record { fits = room-words .0 }, tt)))) $
         move ! (0 ∷ 1 ∷ 4 ∷ 5 ∷ []) $
-        -- steps::column::load_value
-        calls-mut-shr ! fm u32 u8 NoValue (plain (λ _. Plan-T.the-row) ∷ plain (λ _. u32) ∷ []) (yes, (yes, tt)) (load-value-F.clauses 𝓤 H A mem run) known-load-value b₀ o₀ γ₀ (x .1 .0) (length words) (x .1 .1 .1 .1 .0) b₂ o₂ γ₂ column (length column) refl
-        (λ κs. (plan, ((x .0), tt))) (λ κs. (SL.val Plan-T.the-type Plan-L.the-laws plan ∷ [], (vint w32 (x .0) ∷ [], tt))) (λ κs. owns-make 𝓤 H A (Plan-T.the-row ∷ u32 ∷ []) (Ises (Plan-T.the-row ∷ u32 ∷ [])) (SL.makes Plan-T.the-type Plan-L.the-plain 𝓤 H A, (uint-makes 𝓤 H A W w32, tt)) (plan, ((x .0), tt)) (SL.val Plan-T.the-type Plan-L.the-laws plan ∷ [], (vint w32 (x .0) ∷ [], tt)) (is-plan, ((refl, (below-word (x .1 .1 .1 .0) (SL.owed Header-T.the-type Header-L.the-laws header _ is-header .1 .1 .0 .1))), tt))) (λ κs δ₀ δ₁. tt) (λ κs δ₀ δ₁. factI 𝓤 (Suits plan (length (x .1 .0)) (x .0) × (length column ≤ plan .shape .rows) × ((x .0) < 64)) (emp 𝓤) (call-1 words fences column header plan req (x .0) (x .1 .0) (x .1 .1 .1 .1 .0) (ltb→lt (x .0) (header .values) less-h)))
-        (λ r1 words1. words1 ≡ putBlock plan (x .1 .0) (x .0) (loaded (plan .shape) (x .0) column)) (λ κs δ₀ δ₁ r1 ws. id⊢ 𝓤 _) (λ κs δ₀ δ₁. (and-then ! (load ! (from ! (stop !)) (look ! 14 refl)) (and-then ! (load ! (from ! (stop !)) (look ! 28 refl)) (and-then ! (load ! (from ! (stop !)) (look ! 24 refl)) (and-then ! (load ! (from ! (stop !)) (look ! 22 refl)) (no-more !))))))
+        -- steps::column::load_blocks
+        calls-mut-shr ! fm u32 u8 NoValue (plain (λ _. Plan-T.the-row) ∷ plain (λ _. u32) ∷ []) (yes, (yes, tt)) (load-blocks-F.clauses 𝓤 H A mem run) known-load-blocks b₀ o₀ γ₀ words (length words) refl b₂ o₂ γ₂ column (length column) refl
+        (λ κs. (plan, ((header .values), tt))) (λ κs. (SL.val Plan-T.the-type Plan-L.the-laws plan ∷ [], (vint w32 (header .values) ∷ [], tt))) (λ κs. owns-make 𝓤 H A (Plan-T.the-row ∷ u32 ∷ []) (Ises (Plan-T.the-row ∷ u32 ∷ [])) (SL.makes Plan-T.the-type Plan-L.the-plain 𝓤 H A, (uint-makes 𝓤 H A W w32, tt)) (plan, ((header .values), tt)) (SL.val Plan-T.the-type Plan-L.the-laws plan ∷ [], (vint w32 (header .values) ∷ [], tt)) (is-plan, ((refl, (SL.owed Header-T.the-type Header-L.the-laws header _ is-header .1 .1 .0 .1)), tt))) (λ κs δ₀ δ₁. tt) (λ κs δ₀ δ₁. factI 𝓤 (Blocks plan (header .values) (length words) × ((header .values) ≤ 64) × (length column ≤ plan .shape .rows)) (emp 𝓤) (call-1 words fences column header plan req))
+        (λ r1 words1. words1 ≡ loadedWords (plan .shape) column (header .values) words) (λ κs δ₀ δ₁ r1 ws. id⊢ 𝓤 _) (λ κs δ₀ δ₁. (and-then ! (load ! (from ! (stop !)) (look ! 18 refl)) (and-then ! (load ! (from ! (stop !)) (look ! 30 refl)) (and-then ! (load ! (from ! (stop !)) (look ! 26 refl)) (and-then ! (load ! (from ! (fld ! refl (stop !))) (look-in ! 28 (sub ! 2 refl (whole !)))) (no-more !))))))
         (λ u1 r1 words1 n-words1 e1 is1.
-        land ! (from ! (stop !)) (init ! 18 refl (nothing-lawful 𝓤 H A W .typed r1 _ is1 .0)) $
-        assigns ! (addr ! (from ! (fld ! refl (hop ! (look-in ! 32 (sub ! 0 refl (whole !))) (stop !))))) (from ! (stop !)) (init ! 12 refl (tt, tt)) $
-        assigns ! (agg ! (and-then ! (load ! (from ! (stop !)) (look ! 12 refl)) (and-then ! (load ! (from ! (fld ! refl (stop !))) (look-in ! 32 (sub ! 1 refl (whole !)))) (no-more !)))) (from ! (stop !)) (init ! 10 refl (tt, (tt, (record { fits = room-words .0 }, tt)))) $
-        assigns ! (addr ! (from ! (fld ! refl (hop ! (look-in ! 30 (sub ! 0 refl (whole !))) (stop !))))) (from ! (stop !)) (init ! 8 refl (tt, tt)) $
-        assigns ! (agg ! (and-then ! (load ! (from ! (stop !)) (look ! 8 refl)) (and-then ! (load ! (from ! (fld ! refl (stop !))) (look-in ! 30 (sub ! 1 refl (whole !)))) (no-more !)))) (from ! (stop !)) (init ! 6 refl (tt, (tt, (record { fits = room-fences .0 }, tt)))) $
-        move ! (0 ∷ 1 ∷ 4 ∷ 5 ∷ []) $
+        land ! (from ! (stop !)) (init ! 22 refl (nothing-lawful 𝓤 H A W .typed r1 _ is1 .0)) $
+        assigns ! (of-opd ! (lit ! tt)) (from ! (stop !)) (init ! 24 refl (tt, record { fits = (lit< tt) })) $
+        forget ! 18 refl $ forget ! 20 refl $ forget ! 22 refl $
+        move ! (0 ∷ 1 ∷ 4 ∷ 5 ∷ 2 ∷ 3 ∷ []) $
+        let X : Type 0 = (value : ℕ) × ((now-fences : List Fence) × ((value ≤ (header .values)) × ((length now-fences ≡ length fences) × (now-fences ≡ loadedTo words fences column (req .0) (req .1) value .fences)))) in
+        let At : X → List (Item 𝓤) = λ x. ‵ (flft κ₀ q₀) ∷ ‵ (MutSlice (named 0) κ₀ u32 .own (ref b₀ o₀ γ₀ words1) (sliceVal (b₀, o₀) (length words) ∷ [])) ∷ ‵ (flft κ₁ q₁) ∷ ‵ (MutSlice (named 1) κ₁ Fence-T.the-row .own (ref b₁ o₁ γ₁ (x .1 .0)) (sliceVal (b₁, o₁) (length fences) ∷ [])) ∷ ‵ (flft κ₂ q₂) ∷ ‵ (ShrSlice (named 2) κ₂ u8 .own (ref b₂ o₂ γ₂ column) (sliceVal (b₂, o₂) (length column) ∷ [])) ∷ ‵ (froom (sliceTy (tyRef erased mut (pointee (Fence-T.the-row .written)))) l₁₅ 0) ∷ ‵ (fdies (sliceTy (tyRef erased mut (pointee (Fence-T.the-row .written)))) l₁₅) ∷ ‵ (froom (tyRef erased mut (pointee (Fence-T.the-row .written))) l₁₄ 0) ∷ ‵ (fdies (tyRef erased mut (pointee (Fence-T.the-row .written))) l₁₄) ∷ ‵ (froom (sliceTy (tyRef erased imm (tyInt w32))) l₁₃ 0) ∷ ‵ (fdies (sliceTy (tyRef erased imm (tyInt w32))) l₁₃) ∷ ‵ (froom (tyRef erased imm (tyInt w32)) l₁₂ 0) ∷ ‵ (fdies (tyRef erased imm (tyInt w32)) l₁₂) ∷ ‵ (froom (tyUnit) l₁₁ 0) ∷ ‵ (fdies (tyUnit) l₁₁) ∷ ‵ (froom (tyBool) l₁₀ 0) ∷ ‵ (fdies (tyBool) l₁₀) ∷ ‵ (froom (sliceTy (tyRef erased mut (tyInt w32))) l₉ 0) ∷ ‵ (fdies (sliceTy (tyRef erased mut (tyInt w32))) l₉) ∷ ‵ (froom (tyRef erased mut (tyInt w32)) l₈ 0) ∷ ‵ (fdies (tyRef erased mut (tyInt w32)) l₈) ∷ ‵ (froom (tyUnit) l₇ 0) ∷ ‵ (fdies (tyUnit) l₇) ∷ ‵ (fat fullShare (tyInt w32) l₆ 0 (vint w32 (x .0))) ∷ ‵ (fdies (tyInt w32) l₆) ∷ ‵ (fat fullShare (Plan-L.mir) l₅ 0 (SL.val Plan-T.the-type Plan-L.the-laws plan)) ∷ ‵ (fdies (Plan-L.mir) l₅) ∷ ‵ (fat fullShare (Header-L.mir) l₄ 0 (SL.val Header-T.the-type Header-L.the-laws header)) ∷ ‵ (fdies (Header-L.mir) l₄) ∷ ‵ (fat fullShare (sliceTy (tyRef (named 2) imm (tyInt w8))) l₃ 0 (sliceVal (b₂, o₂) (length column))) ∷ ‵ (fdies (sliceTy (tyRef (named 2) imm (tyInt w8))) l₃) ∷ ‵ (fat fullShare (sliceTy (tyRef (named 1) mut (pointee (Fence-T.the-row .written)))) l₂ 0 (sliceVal (b₁, o₁) (length fences))) ∷ ‵ (fdies (sliceTy (tyRef (named 1) mut (pointee (Fence-T.the-row .written)))) l₂) ∷ ‵ (fat fullShare (sliceTy (tyRef (named 0) mut (tyInt w32))) l₁ 0 (sliceVal (b₀, o₀) (length words))) ∷ ‵ (fdies (sliceTy (tyRef (named 0) mut (tyInt w32))) l₁) ∷ ‵ (froom (tyUnit) l₀ 0) ∷ ‵ (fdies (tyUnit) l₀) ∷ [] in
+        while-loops ! 𝓣 (Nearer (λ (x : X). x .0) (header .values)) (Nearer-wf (λ (x : X). x .0) (header .values)) At (λ x whiles.
+        assigns ! (bin ! (load ! (from ! (stop !)) (look ! 24 refl)) (load ! (from ! (fld ! refl (stop !))) (look-in ! 28 (sub ! 2 refl (whole !)))) tt) (from ! (stop !)) (init ! 16 refl (tt, tt)) $
+        whiles _ _ (load ! (from ! (stop !)) (look ! 16 refl))
+        (λ less-h.
+        assigns ! (addr ! (from ! (fld ! refl (hop ! (look-in ! 34 (sub ! 0 refl (whole !))) (stop !))))) (from ! (stop !)) (init ! 12 refl (tt, tt)) $
+        assigns ! (agg ! (and-then ! (load ! (from ! (stop !)) (look ! 12 refl)) (and-then ! (load ! (from ! (fld ! refl (stop !))) (look-in ! 34 (sub ! 1 refl (whole !)))) (no-more !)))) (from ! (stop !)) (init ! 10 refl (tt, (tt, (record { fits = room-words .0 }, tt)))) $
+        assigns ! (addr ! (from ! (fld ! refl (hop ! (look-in ! 32 (sub ! 0 refl (whole !))) (stop !))))) (from ! (stop !)) (init ! 8 refl (tt, tt)) $
+        assigns ! (agg ! (and-then ! (load ! (from ! (stop !)) (look ! 8 refl)) (and-then ! (load ! (from ! (fld ! refl (stop !))) (look-in ! 32 (sub ! 1 refl (whole !)))) (no-more !)))) (from ! (stop !)) (init ! 6 refl (tt, (tt, (record { fits = room-fences .0 }, tt)))) $
         -- renew
-        calls-view-mut ! fm u32 Fence-T.the-row NoValue (plain (λ _. Plan-T.the-row) ∷ plain (λ _. u32) ∷ []) (yes, (yes, tt)) (renew-F.clauses 𝓤 H A mem run) known-renew b₀ o₀ γ₀ words1 (length words) n-words1 b₁ o₁ γ₁ (x .1 .1 .0) (length fences) (x .1 .1 .1 .1 .1 .0)
-        (λ κs. (plan, ((x .0), tt))) (λ κs. (SL.val Plan-T.the-type Plan-L.the-laws plan ∷ [], (vint w32 (x .0) ∷ [], tt))) (λ κs. owns-make 𝓤 H A (Plan-T.the-row ∷ u32 ∷ []) (Ises (Plan-T.the-row ∷ u32 ∷ [])) (SL.makes Plan-T.the-type Plan-L.the-plain 𝓤 H A, (uint-makes 𝓤 H A W w32, tt)) (plan, ((x .0), tt)) (SL.val Plan-T.the-type Plan-L.the-laws plan ∷ [], (vint w32 (x .0) ∷ [], tt)) (is-plan, ((refl, (below-word (x .1 .1 .1 .0) (SL.owed Header-T.the-type Header-L.the-laws header _ is-header .1 .1 .0 .1))), tt))) (λ κs δ₀ δ₁. tt) (λ κs δ₀ δ₁. factI 𝓤 (Fenced plan (length words1) (length (x .1 .1 .0)) (x .0) × (valueLength (blockIn plan words1 (x .0)) ≤ plan .shape .groups)) (emp 𝓤) (call-2 words fences column header plan req (x .0) (x .1 .0) (x .1 .1 .0) (x .1 .1 .1 .1 .0) (x .1 .1 .1 .1 .1 .0) (ltb→lt (x .0) (header .values) less-h) words1 n-words1 e1))
-        (λ r2 fences2. fences2 ≡ renewedFences plan words1 (x .1 .1 .0) (x .0)) (λ κs δ₀ δ₁ r2 ws. id⊢ 𝓤 _) (λ κs δ₀ δ₁. (and-then ! (load ! (from ! (stop !)) (look ! 10 refl)) (and-then ! (load ! (from ! (stop !)) (look ! 6 refl)) (and-then ! (load ! (from ! (stop !)) (look ! 24 refl)) (and-then ! (load ! (from ! (stop !)) (look ! 22 refl)) (no-more !))))))
+        calls-view-mut ! fm u32 Fence-T.the-row NoValue (plain (λ _. Plan-T.the-row) ∷ plain (λ _. u32) ∷ []) (yes, (yes, tt)) (renew-F.clauses 𝓤 H A mem run) known-renew b₀ o₀ γ₀ words1 (length words) n-words1 b₁ o₁ γ₁ (x .1 .0) (length fences) (x .1 .1 .1 .0)
+        (λ κs. (plan, ((x .0), tt))) (λ κs. (SL.val Plan-T.the-type Plan-L.the-laws plan ∷ [], (vint w32 (x .0) ∷ [], tt))) (λ κs. owns-make 𝓤 H A (Plan-T.the-row ∷ u32 ∷ []) (Ises (Plan-T.the-row ∷ u32 ∷ [])) (SL.makes Plan-T.the-type Plan-L.the-plain 𝓤 H A, (uint-makes 𝓤 H A W w32, tt)) (plan, ((x .0), tt)) (SL.val Plan-T.the-type Plan-L.the-laws plan ∷ [], (vint w32 (x .0) ∷ [], tt)) (is-plan, ((refl, (below-word (x .1 .1 .0) (SL.owed Header-T.the-type Header-L.the-laws header _ is-header .1 .1 .0 .1))), tt))) (λ κs δ₀ δ₁. tt) (λ κs δ₀ δ₁. factI 𝓤 (Fenced plan (length words1) (length (x .1 .0)) (x .0) × (valueLength (blockIn plan words1 (x .0)) ≤ plan .shape .groups)) (emp 𝓤) (call-2 words fences column header plan req words1 n-words1 e1 (x .0) (x .1 .0) (x .1 .1 .1 .0) (ltb→lt (x .0) (header .values) less-h)))
+        (λ r2 fences2. fences2 ≡ renewedFences plan words1 (x .1 .0) (x .0)) (λ κs δ₀ δ₁ r2 ws. id⊢ 𝓤 _) (λ κs δ₀ δ₁. (and-then ! (load ! (from ! (stop !)) (look ! 10 refl)) (and-then ! (load ! (from ! (stop !)) (look ! 6 refl)) (and-then ! (load ! (from ! (stop !)) (look ! 26 refl)) (and-then ! (load ! (from ! (stop !)) (look ! 24 refl)) (no-more !))))))
         (λ u2 r2 fences2 n-fences2 e2 is2.
-        land ! (from ! (stop !)) (store ! 18 refl (nothing-lawful 𝓤 H A W .typed r2 _ is2 .0)) $
-        assigns-again ! (Below 𝓤 H A (Nearer (λ (x : X). x .0) (header .values)) At x) _ (bin ! (load ! (from ! (stop !)) (look ! 22 refl)) (lit ! tt) (record { fits = (below-word (next-le (ltb→lt (x .0) (header .values) less-h)) (SL.owed Header-T.the-type Header-L.the-laws header _ is-header .1 .1 .0 .1)) })) (from ! (stop !)) (store ! 22 refl (tt, record { fits = (below-word (next-le (ltb→lt (x .0) (header .values) less-h)) (SL.owed Header-T.the-type Header-L.the-laws header _ is-header .1 .1 .0 .1)) })) $
-        forget ! 6 refl $ forget ! 8 refl $ forget ! 10 refl $ forget ! 12 refl $ forget ! 14 refl $ forget ! 16 refl $ forget ! 18 refl $ forget ! 20 refl $
-        again ! (Nearer (λ (x : X). x .0) (header .values)) At x (((x .0) + 1), (words1, (fences2, ((next-le (ltb→lt (x .0) (header .values) less-h)), (n-words1, (n-fences2, (loop-keep words fences column header plan req (x .0) (x .1 .0) (x .1 .1 .0) (x .1 .1 .1 .1 .0) (x .1 .1 .1 .1 .1 .0) (x .1 .1 .1 .1 .1 .1) (ltb→lt (x .0) (header .values) less-h) words1 n-words1 e1 fences2 e2))))))) (next-nearer (ltb→lt (x .0) (header .values) less-h)))))
+        land ! (from ! (stop !)) (init ! 14 refl (nothing-lawful 𝓤 H A W .typed r2 _ is2 .0)) $
+        assigns-again ! (Below 𝓤 H A (Nearer (λ (x : X). x .0) (header .values)) At x) _ (bin ! (load ! (from ! (stop !)) (look ! 24 refl)) (lit ! tt) (record { fits = (below-word (next-le (ltb→lt (x .0) (header .values) less-h)) (SL.owed Header-T.the-type Header-L.the-laws header _ is-header .1 .1 .0 .1)) })) (from ! (stop !)) (store ! 24 refl (tt, record { fits = (below-word (next-le (ltb→lt (x .0) (header .values) less-h)) (SL.owed Header-T.the-type Header-L.the-laws header _ is-header .1 .1 .0 .1)) })) $
+        forget ! 6 refl $ forget ! 8 refl $ forget ! 10 refl $ forget ! 12 refl $ forget ! 14 refl $ forget ! 16 refl $
+        again ! (Nearer (λ (x : X). x .0) (header .values)) At x (((x .0) + 1), (fences2, ((next-le (ltb→lt (x .0) (header .values) less-h)), (n-fences2, (loop-keep words fences column header plan req words1 n-words1 e1 (x .0) (x .1 .0) (x .1 .1 .1 .1) (ltb→lt (x .0) (header .values) less-h) fences2 e2))))) (next-nearer (ltb→lt (x .0) (header .values) less-h))))
         (λ done-h.
-        assigns ! (of-opd ! (unit-lit !)) (from ! (stop !)) (init ! 34 refl (tt, tt)) $
-        returns ! (look ! 34 refl) $
-        frees-all ! (_ ∷ _ ∷ _ ∷ _ ∷ _ ∷ _ ∷ []) ((_, (l₀, some _)) ∷ (_, (l₁, some _)) ∷ (_, (l₂, some _)) ∷ (_, (l₃, some _)) ∷ (_, (l₄, some _)) ∷ (_, (l₅, some _)) ∷ (_, (l₆, some _)) ∷ (_, (l₇, some _)) ∷ (_, (l₈, none)) ∷ (_, (l₉, none)) ∷ (_, (l₁₀, none)) ∷ (_, (l₁₁, none)) ∷ (_, (l₁₂, none)) ∷ (_, (l₁₃, none)) ∷ (_, (l₁₄, none)) ∷ []) $
+        assigns ! (of-opd ! (unit-lit !)) (from ! (stop !)) (init ! 36 refl (tt, tt)) $
+        returns ! (look ! 36 refl) $
+        frees-all ! (_ ∷ _ ∷ _ ∷ _ ∷ _ ∷ _ ∷ []) ((_, (l₀, some _)) ∷ (_, (l₁, some _)) ∷ (_, (l₂, some _)) ∷ (_, (l₃, some _)) ∷ (_, (l₄, some _)) ∷ (_, (l₅, some _)) ∷ (_, (l₆, some _)) ∷ (_, (l₇, none)) ∷ (_, (l₈, none)) ∷ (_, (l₉, none)) ∷ (_, (l₁₀, some _)) ∷ (_, (l₁₁, none)) ∷ (_, (l₁₂, none)) ∷ (_, (l₁₃, none)) ∷ (_, (l₁₄, none)) ∷ (_, (l₁₅, none)) ∷ []) $
         keep ! (0 ∷ 1 ∷ 2 ∷ 3 ∷ 4 ∷ []) $
-        by ! (exits (x .1 .0) (x .1 .1 .0) (x .1 .1 .1 .1 .0) (x .1 .1 .1 .1 .1 .0) (exit-1 words fences column header plan req (x .0) (x .1 .0) (x .1 .1 .0) (x .1 .1 .1 .1 .1 .1) (le-antisymm (x .1 .1 .1 .0) (nltb→le (x .0) (header .values) done-h)))))) (0, (words, (fences, (zero-le, (refl, (refl, (loop-start words fences column header plan req))))))))))))))))))))))
+        by ! (exits words1 (x .1 .0) n-words1 (x .1 .1 .1 .0) (exit-1 words fences column header plan req words1 n-words1 e1 (x .0) (x .1 .0) (x .1 .1 .1 .1) (le-antisymm (x .1 .1 .0) (nltb→le (x .0) (header .values) done-h)))))) (0, (fences, (zero-le, (refl, refl)))))))))))))))))))))
 
 module _ {M : Type 1} (𝓤 : URA M) (H : Heap 𝓤) (A : Atoms 𝓤) (W : Given 𝓤 H A) (mem : Memory → SProp 𝓤) (run : Routine → Fun 𝓤) where
-  load-values-walks : (𝓣 : Tables 𝓤 H) → Triple 𝓤 (𝓣 .C #steps·load-value) (contractOf 𝓤 H A load-value-F.ended (load-value-F.clauses 𝓤 H A mem run)) → Triple 𝓤 (𝓣 .C #index·renew) (contractOf 𝓤 H A renew-F.ended (renew-F.clauses 𝓤 H A mem run)) → Walks 𝓤 H A load-values-F.ended stayed (WpFn 𝓤 H (𝓣 .C) (𝓣 .Λ) code.function) (load-values-F.clauses 𝓤 H A mem run)
-  load-values-walks 𝓣 known-load-value known-renew =
+  load-values-walks : (𝓣 : Tables 𝓤 H) → Triple 𝓤 (𝓣 .C #steps·load-blocks) (contractOf 𝓤 H A load-blocks-F.ended (load-blocks-F.clauses 𝓤 H A mem run)) → Triple 𝓤 (𝓣 .C #index·renew) (contractOf 𝓤 H A renew-F.ended (renew-F.clauses 𝓤 H A mem run)) → Walks 𝓤 H A load-values-F.ended stayed (WpFn 𝓤 H (𝓣 .C) (𝓣 .Λ) code.function) (load-values-F.clauses 𝓤 H A mem run)
+  load-values-walks 𝓣 known-load-blocks known-renew =
       walked 𝓤 H A load-values-F.ended stayed (load-values-F.clauses 𝓤 H A mem run) (WpFn 𝓤 H (𝓣 .C) (𝓣 .Λ) code.function) (λ κs. (slice-vals, (slice-vals, (slice-vals, (SL.vals Header-T.the-type Header-L.the-laws, (SL.vals Plan-T.the-type Plan-L.the-laws, tt)))))) (λ κs. (mut-slice-tells (named 0) (κs .0) u32, (mut-slice-tells (named 1) (κs .1 .0) Fence-T.the-row, (shr-slice-tells (named 2) (κs .1 .1 .0) u8, (SL.tells Header-T.the-type Header-L.the-laws, (SL.tells Plan-T.the-type Plan-L.the-laws, tt))))))
-      (λ κs qs bounds a g are. needs 𝓤 _ _ (walk 𝓤 H A W mem run (κs .0) (κs .1 .0) (κs .1 .1 .0) (qs .0) (qs .1 .0) (qs .1 .1 .0) (a .0 .ptr .0) (a .0 .ptr .1) (a .0 .name) (a .0 .now) (a .1 .0 .ptr .0) (a .1 .0 .ptr .1) (a .1 .0 .name) (a .1 .0 .now) (a .1 .1 .0 .ptr .0) (a .1 .1 .0 .ptr .1) (a .1 .1 .0 .name) (a .1 .1 .0 .now) (a .1 .1 .1 .0) (a .1 .1 .1 .1 .0) 𝓣 (fmOf 𝓤 H (W .laws) 𝓣) known-load-value known-renew (are .0 .0 .1) (are .1 .0 .0 .1) (are .1 .1 .0 .0 .1) (are .1 .1 .1 .0) (are .1 .1 .1 .1 .0)))
+      (λ κs qs bounds a g are. needs 𝓤 _ _ (walk 𝓤 H A W mem run (κs .0) (κs .1 .0) (κs .1 .1 .0) (qs .0) (qs .1 .0) (qs .1 .1 .0) (a .0 .ptr .0) (a .0 .ptr .1) (a .0 .name) (a .0 .now) (a .1 .0 .ptr .0) (a .1 .0 .ptr .1) (a .1 .0 .name) (a .1 .0 .now) (a .1 .1 .0 .ptr .0) (a .1 .1 .0 .ptr .1) (a .1 .1 .0 .name) (a .1 .1 .0 .now) (a .1 .1 .1 .0) (a .1 .1 .1 .1 .0) 𝓣 (fmOf 𝓤 H (W .laws) 𝓣) known-load-blocks known-renew (are .0 .0 .1) (are .1 .0 .0 .1) (are .1 .1 .0 .0 .1) (are .1 .1 .1 .0) (are .1 .1 .1 .1 .0)))
 
-load-values-meets : {M : Type 1} (𝓤 : URA M) (H : Heap 𝓤) (A : Atoms 𝓤) (W : Given 𝓤 H A) (mem : Memory → SProp 𝓤) (run : Routine → Fun 𝓤) (𝓣 : Tables 𝓤 H) → Triple 𝓤 (𝓣 .C #steps·load-value) (contractOf 𝓤 H A load-value-F.ended (load-value-F.clauses 𝓤 H A mem run)) → Triple 𝓤 (𝓣 .C #index·renew) (contractOf 𝓤 H A renew-F.ended (renew-F.clauses 𝓤 H A mem run)) → Meets 𝓤 H A load-values-F.signature (WpFn 𝓤 H (𝓣 .C) (𝓣 .Λ) code.function) (load-values-F.spec 𝓤 H A mem run)
-load-values-meets 𝓤 H A W mem run 𝓣 known-load-value known-renew =
+load-values-meets : {M : Type 1} (𝓤 : URA M) (H : Heap 𝓤) (A : Atoms 𝓤) (W : Given 𝓤 H A) (mem : Memory → SProp 𝓤) (run : Routine → Fun 𝓤) (𝓣 : Tables 𝓤 H) → Triple 𝓤 (𝓣 .C #steps·load-blocks) (contractOf 𝓤 H A load-blocks-F.ended (load-blocks-F.clauses 𝓤 H A mem run)) → Triple 𝓤 (𝓣 .C #index·renew) (contractOf 𝓤 H A renew-F.ended (renew-F.clauses 𝓤 H A mem run)) → Meets 𝓤 H A load-values-F.signature (WpFn 𝓤 H (𝓣 .C) (𝓣 .Λ) code.function) (load-values-F.spec 𝓤 H A mem run)
+load-values-meets 𝓤 H A W mem run 𝓣 known-load-blocks known-renew =
     walk-meets 𝓤 H A load-values-F.ended stayed W (goes-slice 𝓤 H A W 3 0 tt (plain (λ _. u32)), (goes-slice 𝓤 H A W 3 1 tt (plain (λ _. Fence-T.the-row)), (goes-dropped 𝓤 H A W 3 (shrSliceOf (2 ∷ []) tt (plain (λ _. u8))) yes (λ κs x f. refl), (goes-dropped 𝓤 H A W 3 (plain (λ _. Header-T.the-row)) yes (λ κs x f. refl), (goes-dropped 𝓤 H A W 3 (plain (λ _. Plan-T.the-row)) yes (λ κs x f. refl), tt)))))
-    (load-values-F.clauses 𝓤 H A mem run) (WpFn 𝓤 H (𝓣 .C) (𝓣 .Λ) code.function) (WpFn-mono 𝓤 H (W .laws) 𝓣 code.function) (load-values-walks 𝓤 H A W mem run 𝓣 known-load-value known-renew)
+    (load-values-F.clauses 𝓤 H A mem run) (WpFn 𝓤 H (𝓣 .C) (𝓣 .Λ) code.function) (WpFn-mono 𝓤 H (W .laws) 𝓣 code.function) (load-values-walks 𝓤 H A W mem run 𝓣 known-load-blocks known-renew)
 
 pub load-values-spec : {M : Type 1} → stated.statement M
 unfolding code.routine tablesOf
@@ -173,5 +171,5 @@ load-values-spec 𝓤 H 𝓜 𝓖 𝓡 =
     entered 𝓤 H (tripleOf 𝓤 H (𝓖 .A) load-values-F.signature (load-values-F.spec 𝓤 H (𝓖 .A) (𝓜 .mem) (𝓡 .run)))
     (tables 𝓤 H 𝓜 𝓡 code.env .C) (tables 𝓤 H 𝓜 𝓡 code.env .Λ) #index·load-values code.function (code.unfolded 𝓤 H 𝓜 𝓡)
     (load-values-meets 𝓤 H (𝓖 .A) (givenOf 𝓤 H 𝓜 𝓖) (𝓜 .mem) (𝓡 .run) (tablesOf 𝓤 H 𝓜 (tables 𝓤 H 𝓜 𝓡 code.env))
-    (cited 𝓤 H (tripleOf 𝓤 H (𝓖 .A) load-value-F.signature (load-value-F.spec 𝓤 H (𝓖 .A) (𝓜 .mem) (𝓡 .run))) 𝓜 𝓡 code.env #steps·load-value load-value-def.routine code.calls-steps·column·load-value (load-value-thm.met 𝓤 H 𝓜 𝓖 𝓡))
+    (cited 𝓤 H (tripleOf 𝓤 H (𝓖 .A) load-blocks-F.signature (load-blocks-F.spec 𝓤 H (𝓖 .A) (𝓜 .mem) (𝓡 .run))) 𝓜 𝓡 code.env #steps·load-blocks load-blocks-def.routine code.calls-steps·column·load-blocks (load-blocks-thm.met 𝓤 H 𝓜 𝓖 𝓡))
     (cited 𝓤 H (tripleOf 𝓤 H (𝓖 .A) renew-F.signature (renew-F.spec 𝓤 H (𝓖 .A) (𝓜 .mem) (𝓡 .run))) 𝓜 𝓡 code.env #index·renew renew-def.routine code.calls-index·fences·renew (renew-thm.met 𝓤 H 𝓜 𝓖 𝓡)))
