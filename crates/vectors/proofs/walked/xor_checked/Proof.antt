@@ -47,14 +47,9 @@ xor-into-requires c κs =
     let a = c .before .before .before .before .before .before .before .before .before .before .before .args in
     let x = c .before .before .before .before .before .enum-told .given in
     let y = c .before .before .enum-told3 .given in
-<<<<<<< ours
-    let l = canonical-covers 31 (a .left .now) (whole-canonical (a .left .now) 31 (sym (x .1) ∙ c .before .before .before .before .before .before .before .check .ensures)) in
-    let r = canonical-covers 31 (a .right .now) (whole-canonical (a .right .now) 31 (sym (y .1) ∙ c .before .before .before .before .check2 .ensures)) in
-=======
-    let canonical-left = whole-canonical (a .left .now) 31 (x .0 .0) (sym (x .1) ∙ c .before .before .before .before .before .before .before .check .ensures) in
+    let canonical-left = whole-canonical (a .left .now) 31 (sym (x .1) ∙ c .before .before .before .before .before .before .before .check .ensures) in
     let l = canonical-covers 31 (a .left .now) canonical-left in
-    let r = canonical-covers 31 (a .right .now) (whole-canonical (a .right .now) 31 (y .0 .0) (sym (y .1) ∙ c .before .before .before .before .check2 .ensures)) in
->>>>>>> theirs
+    let r = canonical-covers 31 (a .right .now) (whole-canonical (a .right .now) 31 (sym (y .1) ∙ c .before .before .before .before .check2 .ensures)) in
     let both = combined exclusive (decode (a .left .now)) (decode (a .right .now)) in (
       l,
       r,

@@ -2,8 +2,10 @@
 use mathlib.Core.Path.{_≡_, _∙_, ap, sym}
 use mathlib.Core.Bool.{Bool, cond}
 use native.Mathlib.Omega.{arith}
+use lib.ListN.{length}
 use borrow.Author.Needs.{needs}
 use borrow.Author.Tests.{not-true, not-false}
+use Rattle.words.specs.Words.{decode}
 use Rattle.words.specs.Check.{checkOf}
 use Rattle.words.specs.declared.check.Checked.the-variants.{Whole, Bad}
 use Rattle.words.proofs.check.Ends.{too-long, ends}
@@ -33,7 +35,7 @@ returns-3 c =
     let a = c .before .before .before .before .before .before .before .before .args in
     let form = c .before .before .before .before .form-of in
     let groups = c .before .before .before .before .before .before .groups-for in
-    not-long (a .list .now) (a .length) (λ q. c .if3 .taken (form .ensures .1 ∙ q ∙ sym (groups .ensures)))
+    not-long (a .list .now) (a .length) (λ q. omega (arith, q, form .ensures .1, groups .ensures, c .if3 .taken))
 
 last-group-requires : tie.Need-last-group-requires
 last-group-requires c κs = search needs
@@ -57,8 +59,9 @@ told c =
     let form = c .before .before .before .before .before .before .form-of in
     let groups = c .before .before .before .before .before .before .before .before .groups-for in
     let formed = sym (form .ensures .0) ∙ not-false (form .result .kept) (c .before .before .before .before .if2 .left) in
+    let long : length (decode (a .list .now)) ≡ groups .result = omega (arith, form .ensures .1, c .before .before .if3 .left) in
     let last = c .before .last-group in
-    ends (a .list .now) (a .length) formed (groups .result) (groups .ensures) (sym (form .ensures .1) ∙ c .before .before .if3 .left)
+    ends (a .list .now) (a .length) formed (groups .result) (groups .ensures) long
     (last .result) (last .ensures) (c .tail-clear .result) (c .tail-clear .ensures)
 
 returns-4 : tie.Need-returns-4
