@@ -112,7 +112,7 @@ upbit_room upbit_room_for(uint32_t rows, uint32_t values, uint32_t threshold, ui
 /*
  * Loads a column of bytes, one a row: a value below `values`, or UPBIT_DELETED. Writes all lists and fences,
  * and gives the header of the index; what the memory held before does not matter.
- * Cost: one pass over the column for the refusals and one for each value.
+ * Cost: two passes over the column, and one over the groups of each value.
  * Refuses, with a header of zeros: BAD_HEADER by the four numbers alone, SMALL, BAD_VALUE, FULL.
  */
 upbit_changed upbit_load(uint32_t *words, size_t words_length, upbit_fence *fences, size_t fences_length,

@@ -151,7 +151,7 @@ impl<Words: AsMut<[u32]>, Fences: AsMut<[Fence]>> Index<Words, Fences> {
     /// Loads a column of bytes, one a row: a value below d, or [`DELETED`](crate::DELETED). What the memory held before
     /// does not matter. A refused load leaves the header as it was.
     ///
-    /// Cost: one pass over the column for the refusals and one for each value. Refuses: BAD_HEADER, SMALL, BAD_VALUE, FULL.
+    /// Cost: two passes over the column, and one over the groups of each value. Refuses: BAD_HEADER, SMALL, BAD_VALUE, FULL.
     pub fn load(&mut self, column: &[u8], shape: Shape) -> Result<(), Refusal> {
         let changed = calls::load(self.words.as_mut(), self.fences.as_mut(), column, shape);
         self.keep(changed).map(drop)
