@@ -171,7 +171,7 @@ upbit_answer upbit_query(const uint32_t *words, size_t words_length, const upbit
 
 /*
  * Writes the column: for each row issued the byte of its value, or UPBIT_DELETED; the count is the number of rows.
- * Cost: each word of the index is opened about once.
+ * Cost: each word of a value list about once, those of an update list from the first one on at each fence.
  * Refuses: BAD_HEADER, SMALL, DAMAGED, OUT_SMALL.
  */
 upbit_answer upbit_dump(const uint32_t *words, size_t words_length, const upbit_fence *fences, size_t fences_length,

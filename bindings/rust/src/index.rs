@@ -120,7 +120,8 @@ impl<Words: AsRef<[u32]>, Fences: AsRef<[Fence]>> Index<Words, Fences> {
 
     /// The column: for each row issued the byte of its value, or [`DELETED`](crate::DELETED).
     ///
-    /// Cost: each word of the index is opened about once, and 126,976 bytes of stack. Refuses: BAD_HEADER, SMALL, DAMAGED.
+    /// Cost: each word of a value list about once, those of an update list from the first one on at each fence, and
+    /// 126,976 bytes of stack. Refuses: BAD_HEADER, SMALL, DAMAGED.
     pub fn dump(&self) -> Result<Vec<u8>, Refusal> {
         let mut column = vec![0; self.header.issued.min(MAX_ROWS) as usize];
         let count = self.dump_into(&mut column)?;
@@ -130,8 +131,8 @@ impl<Words: AsRef<[u32]>, Fences: AsRef<[Fence]>> Index<Words, Fences> {
 
     /// Writes the column, and gives the number of rows. Output past it stays.
     ///
-    /// Cost: each word of the index is opened about once, and 126,976 bytes of stack. Refuses: BAD_HEADER, SMALL, DAMAGED,
-    /// OUT_SMALL.
+    /// Cost: each word of a value list about once, those of an update list from the first one on at each fence, and
+    /// 126,976 bytes of stack. Refuses: BAD_HEADER, SMALL, DAMAGED, OUT_SMALL.
     pub fn dump_into(&self, out: &mut [u8]) -> Result<usize, Refusal> {
         let answer = calls::dump(self.words(), self.fences(), out, self.header);
         Refusal::check(answer.number)?;
