@@ -10,7 +10,7 @@ use lib.ListN.{length, getD, set, take, drop, length-append, length-drop}
 use lib.Seq.{length-take-le, take-nil, take-at, drop-at, take-append-le, drop-append-le, getD-take, getD-drop}
 use lib.Seq.{take-add, take-take, drop-drop, set-split, sets, sets-eq}
 use borrow.Rule.Slice.PartMut.{put-same}
-use Rattle.words.proofs.Sets.{drop-further}
+use Rattle.groups.proofs.Sets.{drop-further}
 use Rattle.blocks.specs.Shape.{updateRoom, blockSize}
 use Rattle.blocks.specs.Block.{part, write, valueLength, updateLength, valueWords, updateWords, valueList, updateList}
 use Rattle.blocks.specs.declared.shape.Shape.{Shape}

@@ -6,7 +6,7 @@ use Prim.Native.Nat.{ℕ, _+_, _-_, _/_, _%_, _^_, _<_, _≤_}
 use native.Mathlib.Omega.{arith}
 use lib.Dec.{leb, ltb}
 use lib.ListN.{length, getD, take, drop}
-use Rattle.words.specs.Rows.{rowAt}
+use Rattle.groups.specs.Rows.{rowAt}
 use Rattle.words.specs.Words.{runOf, groupIn, decode}
 use Rattle.words.proofs.Round.{decode-groups}
 use Rattle.lists.specs.Combine.{exclusive, onGroup}

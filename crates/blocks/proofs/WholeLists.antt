@@ -7,12 +7,12 @@ use native.Mathlib.Omega.{arith}
 use lib.Dec.{leb}
 use lib.ListN.{length, getD, take, drop}
 use borrow.Author.Tests.{leb-true, le-leb}
-use Rattle.words.specs.Rows.{rowAt, clearFrom}
+use Rattle.groups.specs.Rows.{rowAt, clearFrom}
 use Rattle.words.specs.Words.{decode, encode, canonical}
 use Rattle.words.proofs.Canonical.{canonical-parts, parts-canonical}
 use Rattle.words.proofs.Round.{Groups, decode-encode, encode-form}
 use Rattle.words.proofs.Size.{encode-length}
-use Rattle.words.proofs.Tail.{clearFrom-rowAt, rowAt-clearFrom}
+use Rattle.groups.proofs.Tail.{clearFrom-rowAt, rowAt-clearFrom}
 use Rattle.lists.specs.Combine.{exclusive, answer, Covers}
 use Rattle.lists.proofs.Combining.{length-combined, combined-lt, rowAt-combined-any}
 use Rattle.lists.proofs.Covering.{canonical-covers}

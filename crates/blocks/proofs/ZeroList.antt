@@ -7,10 +7,10 @@ use native.Mathlib.Nat.{mul-zero}
 use native.Mathlib.Omega.{arith}
 use lib.ListN.{length, take, set, replicate, length-replicate}
 use borrow.Author.Tests.{lt-ltb}
-use Rattle.words.specs.Rows.{rowsOf, onesIn, allZero, clearFrom}
+use Rattle.groups.specs.Rows.{rowsOf, onesIn, allZero, clearFrom}
 use Rattle.words.specs.Words.{Run.fill, wordOf, runOf, decode, canonical}
 use Rattle.words.proofs.Canonical.{parts-canonical}
-use Rattle.words.proofs.Groups.{rowsOf-uniform}
+use Rattle.words.proofs.Uniform.{rowsOf-uniform}
 use Rattle.words.proofs.Ones.{onesIn-replicate, onesIn-none}
 use Rattle.words.proofs.Round.{read-written}
 use Rattle.lists.proofs.OneRow.{encode-zeros}

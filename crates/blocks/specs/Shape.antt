@@ -1,7 +1,7 @@
 -- Document 01, "Memory of an index": the sizes that the blocks of all values share.
 use mathlib.Core.Path.{_≡_}
 use Prim.Native.Nat.{ℕ, _+_, _-_, _*_, _/_, _≤_}
-use Rattle.words.specs.Rows.{rowLimit, groupsFor}
+use Rattle.groups.specs.Rows.{rowLimit, groupsFor}
 use Rattle.blocks.specs.declared.shape.Shape.{Shape}
 
 -- row capacity R with M taken from it, threshold T, fence spacing G

@@ -3,7 +3,7 @@ use mathlib.Core.Bool.{Bool, cond, _&&_}
 use mathlib.Core.List.{List}
 use Prim.Native.Nat.{ℕ}
 use lib.Dec.{leb}
-use Rattle.words.specs.Rows.{rowsOf, onesIn}
+use Rattle.groups.specs.Rows.{rowsOf, onesIn}
 use Rattle.words.specs.Words.{decode, canonical}
 use Rattle.blocks.specs.Shape.{updateRoom}
 use Rattle.blocks.specs.Block.{valueLength, updateLength, valueList, updateList}

@@ -1,7 +1,7 @@
 // The sizes that the blocks of all values share.
 ghost use mathlib.Core.Path.{_≡_};
 ghost use Prim.Native.Nat.{_≤_};
-ghost use Rattle.words.specs.Rows.{rowLimit};
+ghost use Rattle.groups.specs.Rows.{rowLimit};
 ghost use Rattle.blocks.specs.Shape.{Limits, shapeFor, updateRoom, blockSize, fenceCount};
 
 // Row capacity R, groups M, threshold T and fence spacing G.

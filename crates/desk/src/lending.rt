@@ -26,7 +26,7 @@ use lines::verbs::Verb;
 use steps::header::Changed;
 use steps::header::Fence;
 use steps::header::Header;
-use words::rows::smaller;
+use groups::rows::smaller;
 
 // The calls that change rows.
 pub enum Change {

@@ -16,8 +16,8 @@ use lines::say::say_text;
 use lines::say::say_unpacked;
 use lines::say::say_words;
 use lines::verbs::Verb;
-use words::packing::pack;
-use words::unpacking::unpack;
+use packs::packing::pack;
+use packs::unpacking::unpack;
 
 // The longest line.
 const LINE: usize = 600000;

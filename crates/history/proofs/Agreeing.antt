@@ -9,17 +9,17 @@ use native.Mathlib.Omega.{arith}
 use lib.Dec.{eqb}
 use lib.ListN.{length}
 use borrow.Author.Tests.{eq-eqb, ne-eqb}
-use Rattle.words.specs.Rows.{rowAt}
+use Rattle.groups.specs.Rows.{rowAt}
 use Rattle.words.specs.Words.{encode}
 use Rattle.words.proofs.Canonical.{canonical-parts}
-use Rattle.words.proofs.RowsBack.{same-groups}
+use Rattle.groups.proofs.RowsBack.{same-groups}
 use Rattle.words.proofs.Round.{Groups, decode-groups}
 use Rattle.blocks.specs.Shape.{Limits}
 use Rattle.blocks.specs.Block.{current}
-use Rattle.values.specs.Column.{groupsWith, listFor}
+use Rattle.columns.specs.Column.{groupsWith, listFor}
 use Rattle.blocks.specs.Whole.{wholeLists}
 use Rattle.blocks.specs.declared.shape.Shape.{Shape}
-use Rattle.values.proofs.Columns.{row-held, row-past, decode-listFor, canonical-listFor}
+use Rattle.columns.proofs.Columns.{row-held, row-past, decode-listFor, canonical-listFor}
 use Rattle.blocks.proofs.WholeLists.{length-current, decode-current}
 use Rattle.steps.specs.Memory.{Memory, shapeOf, rowsIn, blockAt}
 use Rattle.index.specs.Soundness.{Sound}

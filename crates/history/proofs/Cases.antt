@@ -1,8 +1,8 @@
 -- The marked cases hold, all of them by one computation. Assumes nothing.
 use mathlib.Core.Path.{refl}
-use Rattle.words.specs.Rows.{groupsOf, clearFrom}
+use Rattle.groups.specs.Rows.{groupsOf, clearFrom}
 use Rattle.words.specs.Words.{runOf, addGroup, packed, canonical}
-use Rattle.words.specs.Calls.{packOutcome}
+use Rattle.packs.specs.Calls.{packOutcome}
 use Rattle.lists.specs.Combine.{onGroup}
 use Rattle.lists.specs.OneRow.{turnedOver}
 use Rattle.lists.specs.Walk.{walkTo}
@@ -11,7 +11,7 @@ use Rattle.blocks.specs.Block.{part, write, valueWords, updateWords, valueList,
 use Rattle.blocks.specs.Read.{readValue, readUpdate, readGroup}
 use Rattle.blocks.specs.Whole.{updateOnes, wholeLists}
 use Rattle.values.specs.Change.{merged, turnedList, turned, mergeDue, flipped}
-use Rattle.values.specs.Column.{listFor, loaded}
+use Rattle.columns.specs.Column.{listFor, loaded}
 use Rattle.blocks.specs.Fences.{fenceAt}
 use Rattle.steps.specs.Memory.{limits, withinLimits, lent, blockAt, rowsIn}
 use Rattle.steps.specs.Reading.{fenceFor, readIn, rowOf, valueOf}

@@ -9,7 +9,7 @@ use lib.Dec.{eqb}
 use lib.ListN.{length, set, length-append, length-set}
 use lib.Seq.{getD-set-same, getD-set-other}
 use borrow.Author.Tests.{ne-eqb}
-use Rattle.words.specs.Rows.{rowAt}
+use Rattle.groups.specs.Rows.{rowAt}
 use Rattle.steps.specs.Memory.{Memory, rowsIn}
 use Rattle.index.specs.Soundness.{Sound}
 use Rattle.steps.specs.Entry.{validColumn, grown}

@@ -10,7 +10,7 @@ use lib.Seq.{take-append-seam}
 use borrow.Author.Tests.{leb-false, not-false}
 use Rattle.answers.specs.Outcome.{Outcome}
 use Rattle.answers.proofs.Accepted.{accepted, passes-done}
-use Rattle.words.specs.Rows.{rowAt}
+use Rattle.groups.specs.Rows.{rowAt}
 use Rattle.words.specs.Words.{decode}
 use Rattle.lists.specs.Combine.{exclusive, answer}
 use Rattle.blocks.specs.Block.{valueList, updateList}

@@ -12,7 +12,7 @@ use borrow.Author.Tests.{leb-true, le-leb, not-false}
 use Rattle.answers.specs.Outcome.{_when_}
 use Rattle.answers.specs.declared.Refusal.the-variants.{Damaged}
 use Rattle.answers.proofs.Accepted.{accepted}
-use Rattle.words.specs.Rows.{rowAt}
+use Rattle.groups.specs.Rows.{rowAt}
 use Rattle.blocks.specs.Shape.{Limits, blockSize, fenceCount}
 use Rattle.blocks.specs.Whole.{wholeLists}
 use Rattle.blocks.proofs.Sizes.{place-fits}

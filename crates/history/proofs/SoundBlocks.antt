@@ -5,9 +5,9 @@ use mathlib.Core.List.{List}
 use Prim.Native.Nat.{ℕ, _<_, _≤_}
 use native.Mathlib.Omega.{arith}
 use lib.ListN.{length, getD, List·getD-eq-default}
-use Rattle.words.specs.Rows.{rowAt}
+use Rattle.groups.specs.Rows.{rowAt}
 use Rattle.words.specs.Words.{decode, encode, canonical}
-use Rattle.words.proofs.Groups.{rowAt-zeros}
+use Rattle.groups.proofs.Groups.{rowAt-zeros}
 use Rattle.lists.specs.Combine.{exclusive, answer}
 use Rattle.lists.proofs.TurningOver.{rowAt-turnedOver-other}
 use Rattle.blocks.specs.Shape.{Limits, updateRoom, blockSize}
@@ -20,7 +20,7 @@ use Rattle.values.proofs.Flipping.{kept-ready, merged-ready}
 use Rattle.values.proofs.Turning.{Spare, turnedList-fits, value-turned, update-turned, decode-turned, whole-turned}
 use Rattle.blocks.proofs.WholeLists.{whole-parts, parts-whole, rowAt-current, current-fits, decode-current, canonical-current}
 use Rattle.blocks.proofs.ZeroList.{length-zeroList, decode-zeroList, canonical-zeroList}
-use Rattle.values.proofs.column.Rows.{getD-padded}
+use Rattle.columns.proofs.listing.Rows.{getD-padded}
 use Rattle.index.specs.Soundness.{SoundLists}
 
 -- the lists are whole

@@ -10,12 +10,12 @@ use lib.Dec.{eqb}
 use lib.ListN.{length, getD}
 use borrow.Author.Tests.{le-leb, ltb-false, eqb-true, not-false}
 use Rattle.answers.proofs.Accepted.{Passes}
-use Rattle.words.specs.Rows.{rowAt}
+use Rattle.groups.specs.Rows.{rowAt}
 use Rattle.words.specs.Words.{decode}
-use Rattle.words.proofs.Tail.{clearFrom-rowAt}
+use Rattle.groups.proofs.Tail.{clearFrom-rowAt}
 use Rattle.blocks.specs.Shape.{Limits, blockSize, fenceCount}
-use Rattle.values.specs.Column.{groupsWith, listFor, loaded}
-use Rattle.values.proofs.Columns.{row-held, row-past, length-listFor, clear-listFor, canonical-listFor, length-loaded, current-loaded}
+use Rattle.columns.specs.Column.{groupsWith, listFor, loaded}
+use Rattle.columns.proofs.Columns.{row-held, row-past, length-listFor, clear-listFor, canonical-listFor, length-loaded, current-loaded}
 use Rattle.blocks.proofs.Sizes.{place-fits}
 use Rattle.steps.specs.Memory.{Memory, limits, withinLimits, shapeOf, lent, blockAt, rowsIn}
 use Rattle.index.specs.Soundness.{SoundLists, FencesRight, Sound}

@@ -8,7 +8,7 @@ use native.Mathlib.Decide.{decLt}
 use native.Mathlib.Omega.{arith}
 use lib.ListN.{getD}
 use borrow.Author.Tests.{le-ltb}
-use Rattle.words.specs.Rows.{rowAt}
+use Rattle.groups.specs.Rows.{rowAt}
 use Rattle.blocks.specs.Shape.{fenceCount}
 use Rattle.blocks.specs.Fences.{cursorAt}
 use Rattle.blocks.specs.declared.read.Reading.the-variants.{Group}

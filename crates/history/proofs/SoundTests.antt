@@ -9,16 +9,16 @@ use lib.Dec.{leb, eqb}
 use lib.ListN.{length, getD, drop}
 use lib.Seq.{getD-drop}
 use borrow.Author.Tests.{leb-true, le-leb, eqb-true, eq-eqb}
-use Rattle.words.specs.Rows.{allZero}
+use Rattle.groups.specs.Rows.{allZero}
 use Rattle.words.specs.Words.{decode}
-use Rattle.words.proofs.Tail.{allZero-getD, getD-allZero, clearFrom-rowAt, rowAt-clearFrom}
+use Rattle.groups.proofs.Tail.{allZero-getD, getD-allZero, clearFrom-rowAt, rowAt-clearFrom}
 use Rattle.blocks.specs.Shape.{blockSize, fenceCount}
 use Rattle.blocks.specs.Block.{valueLength, updateLength, valueWords, updateWords, valueList, updateList}
 use Rattle.blocks.specs.Fences.{fenceAt}
 use Rattle.blocks.specs.declared.shape.Shape.{Shape}
 use Rattle.blocks.proofs.Parts.{length-part}
-use Rattle.values.specs.Audit.{soundLists}
-use Rattle.values.proofs.SoundLists.{sound-parts, parts-sound}
+use Rattle.audits.specs.Audit.{soundLists}
+use Rattle.audits.proofs.SoundLists.{sound-parts, parts-sound}
 use Rattle.blocks.proofs.WholeLists.{whole-parts}
 use Rattle.steps.specs.Memory.{Memory, shapeOf, lent, blockAt, fencesAt, soundValue}
 use Rattle.steps.specs.Fences.{noFence, isFence, rightFences}

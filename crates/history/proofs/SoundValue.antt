@@ -4,7 +4,7 @@ use mathlib.Core.Logic.{_⊎_, ⊎-elim}
 use Prim.Native.Nat.{ℕ, _<_}
 use native.Mathlib.Omega.{arith}
 use borrow.Author.Tests.{lt-leb, eq-eqb, ne-eqb}
-use Rattle.words.specs.Rows.{rowAt}
+use Rattle.groups.specs.Rows.{rowAt}
 use Rattle.steps.specs.Memory.{Memory, rowsIn}
 use Rattle.steps.specs.Reading.{rowOf, valueOf, ValuePaper, statePaper, valuePaper}
 use Rattle.index.specs.Soundness.{Sound}

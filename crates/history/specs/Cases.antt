@@ -4,7 +4,7 @@ use mathlib.Core.List.{List, [], _∷_, _++_}
 use Prim.Native.Nat.{ℕ}
 use lib.ListN.{length, drop, replicate}
 use Rattle.answers.specs.Outcome.{Outcome}
-use Rattle.words.specs.Calls.{packOutcome}
+use Rattle.packs.specs.Calls.{packOutcome}
 use Rattle.steps.specs.Entry.{noHeader}
 use Rattle.steps.specs.Fences.{fence}
 use Rattle.steps.specs.Memory.{memoryOf}

@@ -5,7 +5,7 @@ use mathlib.Core.List.{List}
 use Prim.Native.Nat.{ℕ, _+_, _*_, _<_, _≤_}
 use lib.Dec.{eqb}
 use lib.ListN.{length}
-use Rattle.words.specs.Rows.{rowAt}
+use Rattle.groups.specs.Rows.{rowAt}
 use Rattle.steps.specs.Memory.{Memory, rowsIn}
 use Rattle.index.specs.Soundness.{Sound}
 use Rattle.steps.specs.Outcomes.{After}

@@ -8,9 +8,9 @@ use lib.ListN.{length, getD, set}
 use Rattle.answers.specs.Numbers.{numberOf}
 use Rattle.answers.specs.Outcome.{Check, _when_, Outcome, outcome}
 use Rattle.answers.specs.declared.Refusal.the-variants.{BadHeader, Small, BadValue, NoRow, Full, Gone, OutSmall}
-use Rattle.words.specs.Rows.{groupsFor, cut}
+use Rattle.groups.specs.Rows.{groupsFor, cut}
 use Rattle.words.specs.Words.{encode}
-use Rattle.values.specs.Column.{rowsWith}
+use Rattle.columns.specs.Column.{rowsWith}
 use Rattle.steps.specs.Memory.{limits, lent}
 use Rattle.steps.specs.Entry.{validColumn}
 use Rattle.index.specs.Calls.{loadHeader}

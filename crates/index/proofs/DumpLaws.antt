@@ -10,14 +10,14 @@ use lib.Dec.{eqb, ltb}
 use lib.ListN.{length, getD, take, replicate, length-append, length-replicate, getD-replicate, List·getD-append}
 use lib.Seq.{ext-getD, getD-at, getD-take, length-take-le}
 use borrow.Author.Tests.{lt-ltb, ltb-true, eqb-true, eqb-false}
-use Rattle.values.specs.Dump.{eachRow, everyRow}
-use Rattle.values.proofs.EachRow.{length-each, getD-each, every-each, each-every}
+use Rattle.dumps.specs.Dump.{eachRow, everyRow}
+use Rattle.dumps.proofs.EachRow.{length-each, getD-each, every-each, each-every}
 use Rattle.steps.specs.Memory.{Memory, blockAt, every}
 use Rattle.steps.specs.Entry.{planOf}
 use Rattle.steps.specs.Alter.{blockIn}
 use Rattle.steps.specs.Reading.{rowOf, isDamaged}
 use Rattle.index.specs.Calls.{byteOf, bytesOf}
-use Rattle.steps.specs.Dumping.{fencesFor, fenceHolds, fenceMarked, fenceNumber, turnHolds, markedFences, fencesHold, markedValues, valuesHold}
+use Rattle.dumps.specs.Dumping.{fencesFor, fenceHolds, fenceMarked, fenceNumber, turnHolds, markedFences, fencesHold, markedValues, valuesHold}
 use Rattle.steps.specs.declared.entry.Plan.{Plan}
 use Rattle.steps.specs.declared.header.Header.{Header}
 use Rattle.steps.specs.declared.header.Fence.{Fence}

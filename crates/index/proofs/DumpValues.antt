@@ -6,13 +6,13 @@ use Prim.Native.Nat.{ℕ, zero, suc, _+_, _-_, _/_, _%_, _^_, _<_, _≤_}
 use native.Mathlib.Omega.{arith}
 use lib.Dec.{eqb, ltb}
 use borrow.Author.Tests.{lt-ltb, ne-eqb}
-use Rattle.values.specs.Dump.{eachRow, everyRow, freeInReading, markedInReading}
+use Rattle.dumps.specs.Dump.{eachRow, everyRow, freeInReading, markedInReading}
 use Rattle.blocks.specs.declared.read.Reading.{Reading}
 use Rattle.blocks.specs.declared.read.Reading.the-variants.{Group, Broken}
-use Rattle.values.proofs.EachRow.{each-keeps, each-then, each-every, every-then}
+use Rattle.dumps.proofs.EachRow.{each-keeps, each-then, each-every, every-then}
 use Rattle.steps.specs.Memory.{Memory}
 use Rattle.steps.specs.Reading.{readIn, rowStep, readRow, isDamaged, isDeleted}
-use Rattle.steps.specs.Dumping.{markedValues, valuesHold}
+use Rattle.dumps.specs.Dumping.{markedValues, valuesHold}
 use Rattle.steps.specs.declared.header.Header.{Header}
 use Rattle.steps.specs.declared.row.Row.{Row}
 use Rattle.index.proofs.DumpFences.{issuedFree, issuedMarked, value-marked, value-holds}

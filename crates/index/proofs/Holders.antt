@@ -5,7 +5,7 @@ use mathlib.Core.List.{List}
 use Prim.Native.Nat.{ℕ, zero, suc, _+_, _<_, _≤_}
 use native.Mathlib.Decide.{decLt}
 use native.Mathlib.Omega.{arith}
-use Rattle.words.specs.Rows.{rowAt}
+use Rattle.groups.specs.Rows.{rowAt}
 use Rattle.steps.specs.Memory.{rowsIn, holdersOf}
 use Rattle.steps.specs.declared.header.Header.{Header}
 

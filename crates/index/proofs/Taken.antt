@@ -7,16 +7,16 @@ use native.Mathlib.Omega.{arith}
 use lib.Dec.{leb, ltb}
 use lib.ListN.{length, replicate, length-replicate}
 use borrow.Author.Tests.{leb-true, le-leb, ltb-true, ltb-false}
-use Rattle.words.specs.Rows.{rowAt}
-use Rattle.words.proofs.Groups.{rowAt-zeros}
-use Rattle.words.proofs.Tail.{clearFrom-rowAt}
+use Rattle.groups.specs.Rows.{rowAt}
+use Rattle.groups.proofs.Groups.{rowAt-zeros}
+use Rattle.groups.proofs.Tail.{clearFrom-rowAt}
 use Rattle.lists.specs.Combine.{shared, either, answer, combined, apart}
 use Rattle.lists.proofs.Apart.{apart-rows, rows-apart}
 use Rattle.lists.proofs.Combining.{length-combined, rowAt-combined-any}
 use Rattle.lists.proofs.Operations.{either-bits}
 use Rattle.blocks.specs.Shape.{Limits}
-use Rattle.values.specs.Audit.{soundLists}
-use Rattle.values.proofs.SoundLists.{sound-parts, sound-current}
+use Rattle.audits.specs.Audit.{soundLists}
+use Rattle.audits.proofs.SoundLists.{sound-parts, sound-current}
 use Rattle.blocks.proofs.WholeLists.{length-current}
 use Rattle.steps.specs.Memory.{shapeOf, blockAt, rowsIn, every, holdersOf}
 use Rattle.steps.specs.declared.header.Header.{Header}

@@ -6,8 +6,8 @@ use Prim.Native.Nat.{ℕ, suc, _≤_}
 use native.Mathlib.Omega.{arith}
 use lib.ListN.{length, take, drop, replicate, length-append, length-replicate}
 use lib.Seq.{take-at}
-use Rattle.words.specs.Rows.{Groups}
-use Rattle.words.proofs.Groups.{groups-drop, groups-append, groups-zeros}
+use Rattle.groups.specs.Rows.{Groups}
+use Rattle.groups.proofs.Groups.{groups-drop, groups-append, groups-zeros}
 use Rattle.lists.specs.Combine.{either, combined, apart}
 use Rattle.lists.proofs.Combining.{combined-lt}
 use Rattle.lists.proofs.Operations.{either-bits}

@@ -4,7 +4,7 @@ use mathlib.Core.Bool.{true}
 use mathlib.Core.List.{List}
 use Prim.Native.Nat.{ℕ, _+_, _*_, _<_, _≤_}
 use lib.ListN.{length, getD}
-use Rattle.words.specs.Rows.{rowAt}
+use Rattle.groups.specs.Rows.{rowAt}
 use Rattle.words.specs.Words.{decode, canonical}
 use Rattle.blocks.specs.Shape.{updateRoom, blockSize, fenceCount}
 use Rattle.blocks.specs.Block.{valueLength, updateLength, valueWords, updateWords, valueList, updateList}

@@ -6,9 +6,9 @@ ghost use mathlib.Core.List.{_++_};
 ghost use Prim.Native.Nat.{_*_, _≤_};
 ghost use lib.ListN.{length, take, drop, replicate};
 ghost use Rattle.answers.specs.Numbers.{paper};
-ghost use Rattle.words.specs.Rows.{Groups};
+ghost use Rattle.groups.specs.Rows.{Groups};
 ghost use Rattle.lists.specs.Combine.{either, combined, apart};
-ghost use Rattle.values.specs.Audit.{soundLists};
+ghost use Rattle.audits.specs.Audit.{soundLists};
 ghost use Rattle.blocks.specs.Block.{part, current};
 ghost use Rattle.blocks.specs.Shape.{fenceCount};
 ghost use Rattle.steps.specs.Alter.{Fenced, blockIn, listIn};
@@ -25,7 +25,7 @@ use steps::entry::Plan;
 use steps::entry::enter_index;
 use steps::header::Fence;
 use steps::header::Header;
-use words::rows::GROUP_LIMIT;
+use groups::rows::GROUP_LIMIT;
 
 // And whether its fences are right.
 fn audit_value(

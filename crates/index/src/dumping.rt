@@ -6,21 +6,21 @@ ghost use Prim.Native.Nat.{_<_, _≤_};
 ghost use lib.ListN.{length};
 ghost use Rattle.answers.specs.Outcome.{Gives};
 ghost use Rattle.index.specs.Calls.{dumpOutcome};
-ghost use Rattle.steps.specs.Dumping.{fencesFor, fencesHold, markedFences, valuesHold, markedValues};
+ghost use Rattle.dumps.specs.Dumping.{fencesFor, fencesHold, markedFences, valuesHold, markedValues};
 ghost use Rattle.steps.specs.Entry.{Planned};
 ghost use Rattle.steps.specs.Memory.{memoryOf};
 use crate::fences::fence_at;
 use answers::Answer;
 use answers::Refusal;
-use steps::dump::fences_for;
-use steps::dump::give_rows;
-use steps::dump::mark_fence;
+use dumps::dump::fences_for;
+use dumps::dump::give_rows;
+use dumps::dump::mark_fence;
 use steps::entry::Entry;
 use steps::entry::Plan;
 use steps::entry::enter_index;
 use steps::header::Fence;
 use steps::header::Header;
-use words::rows::ROW_LIMIT;
+use groups::rows::ROW_LIMIT;
 
 // Marks the rows of one value. False if one of them is damaged.
 fn mark_value(

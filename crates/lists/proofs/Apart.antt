@@ -4,8 +4,8 @@ use mathlib.Core.Bool.{true}
 use mathlib.Core.List.{List}
 use Prim.Native.Nat.{ℕ, zero-le}
 use lib.ListN.{length}
-use Rattle.words.specs.Rows.{rowAt, clearFrom}
-use Rattle.words.proofs.Tail.{clear-all, clearFrom-rowAt, rowAt-clearFrom}
+use Rattle.groups.specs.Rows.{rowAt, clearFrom}
+use Rattle.groups.proofs.Tail.{clear-all, clearFrom-rowAt, rowAt-clearFrom}
 use Rattle.lists.specs.Combine.{shared, answer, combined, apart}
 use Rattle.lists.proofs.Operations.{shared-bits}
 use Rattle.lists.proofs.Combining.{combined-lt, rowAt-combined-any}

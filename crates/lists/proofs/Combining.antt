@@ -8,8 +8,8 @@ use native.Mathlib.Nat.{sub-zero, suc-sub-suc}
 use lib.Dec.{ltb}
 use lib.ListN.{length, getD, replicate}
 use borrow.Author.Tests.{ltb-true, ltb-false}
-use Rattle.words.specs.Rows.{rowAt}
-use Rattle.words.proofs.Groups.{rowAt-past}
+use Rattle.groups.specs.Rows.{rowAt}
+use Rattle.groups.proofs.Groups.{rowAt-past}
 use Rattle.words.proofs.Round.{Groups}
 use Rattle.lists.specs.Combine.{Operation, answer, onGroup, combined}
 use Rattle.lists.proofs.Operations.{GivesBits, onGroup-lt, bit-onGroup}

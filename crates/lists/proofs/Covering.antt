@@ -6,7 +6,7 @@ use Prim.Native.Nat.{ℕ, zero, suc, _+_, _-_, _<_, _≤_}
 use native.Mathlib.Omega.{arith}
 use lib.ListN.{length, getD, take, drop, length-drop, length-replicate, List·getD-append, getD-replicate}
 use lib.Seq.{getD-drop, getD-append-add}
-use Rattle.words.specs.Rows.{groupsFor}
+use Rattle.groups.specs.Rows.{groupsFor}
 use Rattle.words.specs.Words.{Run, Run.literal, Run.fill, runOf, span, groupIn, decode, encode, noFill, bitAfter, wellFormed, canonical}
 use Rattle.words.proofs.Canonical.{canonical-parts}
 use Rattle.words.proofs.Forms.{keeps-covers, keeps-first, groupsOfRun, runAt, decode-split, length-split, decode-from}

@@ -7,10 +7,10 @@ use native.Mathlib.Omega.{arith}
 use lib.Dec.{eqb}
 use lib.ListN.{length, replicate, length-replicate}
 use borrow.Author.Tests.{eqb-true, eqb-false}
-use Rattle.words.specs.Rows.{rowAt}
-use Rattle.words.proofs.Groups.{rowAt-zeros}
+use Rattle.groups.specs.Rows.{rowAt}
+use Rattle.groups.proofs.Groups.{rowAt-zeros}
 use Rattle.words.proofs.Round.{Groups}
-use Rattle.words.proofs.RowsBack.{same-groups}
+use Rattle.groups.proofs.RowsBack.{same-groups}
 use Rattle.lists.specs.Combine.{exclusive, answer, combined}
 use Rattle.lists.specs.OneRow.{turnedOver}
 use Rattle.lists.proofs.Combining.{length-combined, combined-lt, rowAt-combined-any}

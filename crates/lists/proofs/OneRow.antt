@@ -10,13 +10,13 @@ use lib.ListN.{length, getD, take, replicate, length-append, length-replicate}
 use lib.Pow.{pow-pos, pow-mono}
 use lib.Seq.{sets, getD-at, take-at}
 use borrow.Author.Tests.{eqb-true, eqb-false}
-use Rattle.words.specs.Rows.{rowAt}
+use Rattle.groups.specs.Rows.{rowAt}
 use Rattle.words.specs.Words.{Run.fill, allOnes, wordOf, uniform, decode, encode}
 use Rattle.words.specs.Writer.{Takes, written, lastWords}
 use Rattle.words.specs.declared.writer.Pending.{Pending}
 use Rattle.words.specs.declared.writer.Step.{Step}
-use Rattle.words.proofs.Group.{power-bit, power-other}
-use Rattle.words.proofs.Groups.{getD-zeros}
+use Rattle.groups.proofs.Group.{power-bit, power-other}
+use Rattle.groups.proofs.Groups.{getD-zeros}
 use Rattle.words.proofs.Round.{Groups, decode-encode}
 use Rattle.words.proofs.Runs.{ends-run, last-run, literal-word}
 use Rattle.words.proofs.Writing.{Writing, step-on, ends}

@@ -8,14 +8,14 @@ use lib.Dec.{eqb}
 use lib.ListN.{length, getD, set, length-set}
 use lib.Seq.{take-all, drop-set-lt, getD-set-same, getD-set-other}
 use borrow.Author.Tests.{eqb-true, eqb-false}
-use Rattle.words.specs.Rows.{rowLimit, areBits, onesIn, groupsFor, groupsOf, rowsOf, rowAt, allZero, clearFrom}
+use Rattle.groups.specs.Rows.{rowLimit, areBits, onesIn, groupsFor, groupsOf, rowsOf, rowAt, allZero, clearFrom}
 use Rattle.words.specs.Words.{decode, encode, canonical}
-use Rattle.words.proofs.Bits.{areBits-set}
+use Rattle.groups.proofs.Bits.{areBits-set}
 use Rattle.words.proofs.Canonical.{canonical-parts, parts-canonical}
 use Rattle.words.proofs.Ones.{onesIn-set}
-use Rattle.words.proofs.Groups.{length-groupsOf, groupsOf-lt, length-rowsOf, areBits-rowsOf, getD-rowsOf}
+use Rattle.groups.proofs.Groups.{length-groupsOf, groupsOf-lt, length-rowsOf, areBits-rowsOf, getD-rowsOf}
 use Rattle.words.proofs.Round.{Groups, decode-encode, encode-form}
-use Rattle.words.proofs.RowsBack.{rowAt-groupsOf, rows-back, same-groups}
+use Rattle.groups.proofs.RowsBack.{rowAt-groupsOf, rows-back, same-groups}
 use Rattle.lists.specs.Combine.{exclusive, answer, combined}
 use Rattle.lists.specs.OneRow.{oneRow, turnedOver}
 use Rattle.lists.proofs.Operations.{exclusive-bits, turns}

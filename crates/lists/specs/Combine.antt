@@ -4,7 +4,7 @@ use mathlib.Core.Bool.{Bool, true}
 use mathlib.Core.List.{List, [], _∷_, _++_, map}
 use Prim.Native.Nat.{ℕ, zero, suc, _+_, _*_, _-_, _/_, _%_, _<_, _≤_}
 use lib.ListN.{length, getD, drop, replicate}
-use Rattle.words.specs.Rows.{allZero}
+use Rattle.groups.specs.Rows.{allZero}
 use Rattle.words.specs.Words.{runOf, span, decode, noFill, wellFormed}
 use Rattle.words.specs.Writer.{Alone}
 use Rattle.lists.specs.declared.combine.Span.{Span}

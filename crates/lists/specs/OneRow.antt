@@ -3,7 +3,7 @@ use mathlib.Core.Path.{_≡_}
 use mathlib.Core.List.{List, _∷_, _++_}
 use Prim.Native.Nat.{ℕ, _-_, _/_, _%_, _^_, _≤_}
 use lib.ListN.{getD, take, replicate, set}
-use Rattle.words.specs.Rows.{groupsOf, rowsOf}
+use Rattle.groups.specs.Rows.{groupsOf, rowsOf}
 use Rattle.words.specs.Words.{encode}
 use Rattle.lists.specs.declared.one_row.Short.{Short}
 

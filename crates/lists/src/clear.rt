@@ -1,7 +1,7 @@
 // Whether a packed list has no 1 from a row on.
 ghost use mathlib.Core.Path.{_≡_};
 ghost use Prim.Native.Nat.{_≤_};
-ghost use Rattle.words.specs.Rows.{rowLimit, clearFrom};
+ghost use Rattle.groups.specs.Rows.{rowLimit, clearFrom};
 ghost use Rattle.words.specs.Words.{decode};
 ghost use Rattle.lists.specs.Combine.{Covers};
 use words::word::group_in;

@@ -1,7 +1,7 @@
 // The list of one row alone: at most three words.
 ghost use Prim.Native.Nat.{_/_, _<_, _≤_};
 ghost use Rattle.lists.specs.OneRow.{oneRow, Packs};
-use words::rows::MASKS;
+use groups::rows::MASKS;
 use words::writer::Pending;
 use words::writer::finish;
 use words::writer::next_step;

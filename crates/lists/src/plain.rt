@@ -3,7 +3,7 @@ ghost use mathlib.Core.Path.{_≡_};
 ghost use mathlib.Core.List.{_++_};
 ghost use Prim.Native.Nat.{_<_, _≤_};
 ghost use lib.ListN.{length, take, drop, replicate};
-ghost use Rattle.words.specs.Rows.{Groups};
+ghost use Rattle.groups.specs.Rows.{Groups};
 ghost use Rattle.words.specs.Words.{decode};
 ghost use Rattle.lists.specs.Combine.{exclusive, either, combined, apart};
 use words::word::group_in;

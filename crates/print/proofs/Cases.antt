@@ -1,11 +1,11 @@
 -- The cases hold, all of them by one computation. Assumes nothing.
 use mathlib.Core.Path.{refl}
-use Rattle.words.specs.Rows.{clearFrom}
+use Rattle.groups.specs.Rows.{clearFrom}
 use Rattle.words.specs.Words.{runOf, addGroup, canonical}
 use Rattle.lists.specs.Combine.{onGroup}
 use Rattle.blocks.specs.Shape.{fenceCount}
 use Rattle.blocks.specs.Block.{part, write, valueWords, updateWords, valueList, updateList, current, padded, blockOf, zeroList}
-use Rattle.values.specs.Column.{listFor, loaded}
+use Rattle.columns.specs.Column.{listFor, loaded}
 use Rattle.blocks.specs.Whole.{updateOnes, wholeLists}
 use Rattle.steps.specs.Memory.{limits, withinLimits, lent, blockAt, rowsIn}
 use Rattle.index.specs.Calls.{whole, withBlock, renewed, loadAfter, queryList, queryOutcome}

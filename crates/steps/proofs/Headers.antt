@@ -4,7 +4,7 @@ use mathlib.Core.Bool.{true, and-eq-true-iff}
 use Prim.Native.Nat.{ℕ, _≤_}
 use lib.Dec.{leb}
 use borrow.Author.Tests.{leb-true}
-use Rattle.words.specs.Rows.{rowLimit}
+use Rattle.groups.specs.Rows.{rowLimit}
 use Rattle.blocks.specs.Shape.{Limits}
 use Rattle.steps.specs.Memory.{between, limits, withinLimits, shapeOf}
 use Rattle.steps.specs.declared.header.Header.{Header}

@@ -1,5 +1,4 @@
 pub mod Altering
 pub mod FenceRecords
 pub mod Headers
-pub mod Loading
 pub mod RowLaws

@@ -4,10 +4,10 @@ use mathlib.Core.List.{List}
 use Prim.Native.Nat.{ℕ, zero, suc, _+_, _*_}
 use lib.Dec.{leb}
 use lib.ListN.{length}
-use Rattle.words.specs.Rows.{rowLimit, rowAt}
+use Rattle.groups.specs.Rows.{rowLimit, rowAt}
 use Rattle.blocks.specs.Shape.{shapeFor, blockSize, fenceCount}
 use Rattle.blocks.specs.Block.{part, valueList, current}
-use Rattle.values.specs.Audit.{soundLists}
+use Rattle.audits.specs.Audit.{soundLists}
 use Rattle.blocks.specs.declared.shape.Shape.{Shape}
 use Rattle.steps.specs.Fences.{rightFences}
 use Rattle.steps.specs.declared.header.Header.{Header}

@@ -4,14 +4,14 @@ ghost use mathlib.Core.Bool.{true, _&&_};
 ghost use mathlib.Core.List.{_++_};
 ghost use Prim.Native.Nat.{_≤_};
 ghost use lib.ListN.{length, take, drop};
-ghost use Rattle.words.specs.Rows.{Groups};
+ghost use Rattle.groups.specs.Rows.{Groups};
 ghost use Rattle.lists.specs.Combine.{either, combined, apart};
-ghost use Rattle.values.specs.Audit.{soundLists};
+ghost use Rattle.audits.specs.Audit.{soundLists};
 ghost use Rattle.blocks.specs.Block.{current};
 ghost use Rattle.steps.specs.Alter.{Suits, blockIn};
 use crate::entry::Plan;
-use values::audit::sound_lists;
-use values::audit::take_value;
+use audits::audit::sound_lists;
+use audits::audit::take_value;
 
 // Whether the lists of a value are sound and none of its rows is taken yet; they are then taken. `taken` has
 // the rows of the values before it. Where it answers false, `taken` is good for nothing.

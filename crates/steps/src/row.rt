@@ -10,7 +10,7 @@ use crate::header::Fence;
 use answers::Refusal;
 use blocks::read::Reading;
 use blocks::read::read_group;
-use words::rows::row_of;
+use groups::rows::row_of;
 
 // What the values read so far say of a row: whether a read failed, in how many values the row is, the
 // last of them, and the words opened.

@@ -6,7 +6,7 @@ use Prim.Native.Nat.{ℕ, _-_, _<_, _≤_}
 use native.Mathlib.Omega.{arith}
 use lib.ListN.{length}
 use borrow.Author.Tests.{eq-eqb, leb-false}
-use Rattle.words.specs.Rows.{rowAt}
+use Rattle.groups.specs.Rows.{rowAt}
 use Rattle.words.specs.Words.{decode, encode}
 use Rattle.lists.specs.OneRow.{turnedOver}
 use Rattle.lists.proofs.TurningOver.{rowAt-turnedOver, rowAt-turnedOver-other}

@@ -7,7 +7,7 @@ use native.Mathlib.Omega.{arith}
 use lib.Dec.{eqb}
 use lib.ListN.{length}
 use borrow.Author.Tests.{eqb-true, eqb-false}
-use Rattle.words.specs.Rows.{rowAt, rowsOf, onesIn}
+use Rattle.groups.specs.Rows.{rowAt, rowsOf, onesIn}
 use Rattle.words.specs.Words.{decode, canonical}
 use Rattle.words.proofs.Round.{decode-encode}
 use Rattle.words.proofs.Size.{encode-ones}

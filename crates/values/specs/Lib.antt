@@ -1,6 +1,2 @@
 pub mod Query
 pub mod Change
-pub mod Column
-pub mod Dump
-pub mod Audit
-pub mod Listing

@@ -18,8 +18,8 @@ use blocks::read::read_update;
 use blocks::shape::Shape;
 use lists::combine::xor_into;
 use lists::one_row::one_row;
-use words::rows::GROUP_LIMIT;
-use words::rows::row_of;
+use groups::rows::GROUP_LIMIT;
+use groups::rows::row_of;
 
 // What a flip did: where it merged, the fences of the value are to be made anew.
 pub enum Flipped {

@@ -14,7 +14,7 @@ use answers::Answer;
 use answers::Refusal;
 use blocks::shape::Shape;
 use lists::combine::xor_into;
-use words::rows::GROUP_LIMIT;
+use groups::rows::GROUP_LIMIT;
 use words::writer::copy;
 
 // Writes V xor U to a place with room for M words; answers the list's length.

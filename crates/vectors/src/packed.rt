@@ -4,8 +4,8 @@ use crate::say::say_list;
 use crate::say::say_refusal;
 use crate::say::say_rows;
 use answers::Answer;
-use words::pack;
-use words::unpack;
+use packs::pack;
+use packs::unpack;
 
 // 1 where the column, a digit each, holds the value at a row.
 fn holds(column: &[u8], row: usize, value: u8) -> u8 {

@@ -9,12 +9,11 @@ use lib.Dec.{eqb}
 use lib.ListN.{length, take}
 use lib.Seq.{length-take-le}
 use borrow.Author.Tests.{eqb-true, eq-eqb}
-use Rattle.words.specs.Rows.{rowLimit, areBits, groupsFor, groupsOf, rowsOf, clearFrom}
-use Rattle.words.specs.Words.{runOf, decode, encode, packed, noFill, wellFormed, canonical}
-use Rattle.words.specs.Calls.{unpacked}
-use Rattle.words.proofs.Bits.{areBits-take}
-use Rattle.words.proofs.Groups.{length-groupsOf, groupsOf-lt, length-rowsOf, areBits-rowsOf}
-use Rattle.words.proofs.RowsBack.{rows-back, clearFrom-groupsOf, groups-back}
+use Rattle.groups.specs.Rows.{rowLimit, areBits, groupsFor, groupsOf, rowsOf, clearFrom}
+use Rattle.words.specs.Words.{unpacked, runOf, decode, encode, packed, noFill, wellFormed, canonical}
+use Rattle.groups.proofs.Bits.{areBits-take}
+use Rattle.groups.proofs.Groups.{length-groupsOf, groupsOf-lt, length-rowsOf, areBits-rowsOf}
+use Rattle.groups.proofs.RowsBack.{rows-back, clearFrom-groupsOf, groups-back}
 use Rattle.words.proofs.Round.{Words, decode-encode, encode-decode, encode-form, decode-groups}
 
 -- ---- what canonical says

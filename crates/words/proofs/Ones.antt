@@ -7,9 +7,9 @@ use native.Mathlib.Nat.{add-comm, zero-mul, suc-mul, mod-lt, mod-one, mod-eq-of-
 use lib.Count.{ones, ones-cat, ones-ones}
 use lib.ListN.{length, getD, replicate, set}
 use lib.Pow.{pow-pos}
-use Rattle.words.specs.Rows.{onesIn, bitsOf, rowsOf}
+use Rattle.groups.specs.Rows.{onesIn, bitsOf, rowsOf}
 use Rattle.words.specs.Words.{allOnes}
-use Rattle.words.proofs.Group.{bit-above}
+use Rattle.groups.proofs.Group.{bit-above}
 
 pub onesIn-append : (front back : List ℕ) → onesIn (front ++ back) ≡ onesIn front + onesIn back
 onesIn-append [] back = omega arith

@@ -12,7 +12,7 @@ use Rattle.words.specs.Words.{addFill, addGroup, runsOf, encode, noFill,
 use Rattle.words.proofs.Runs.{addFills, runs-uniform, fills-apart, by-fill, by-group, groups-runs}
 use Rattle.words.proofs.word.Reading.{reads-literal, reads-fill}
 use Rattle.words.proofs.Forms.{length-groups, keeps-first, keeps-literal, keeps-fill, form-apart, apart-form}
-pub use Rattle.words.specs.Rows.{Groups}
+pub use Rattle.groups.specs.Rows.{Groups}
 
 -- each of a list is a word of 32 bits, as in a slice
 abbrev pub Words : List ℕ → Type 0

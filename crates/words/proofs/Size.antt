@@ -4,11 +4,11 @@ use mathlib.Core.List.{List, [], _∷_}
 use Prim.Native.Nat.{ℕ, suc, zero, _+_, _*_, _≤_}
 use native.Mathlib.Omega.{arith}
 use lib.ListN.{length, take, drop, length-map, take-append-drop}
-use Rattle.words.specs.Rows.{onesIn, groupOf, cut, groupsFor, groupsOf, rowsOf}
+use Rattle.groups.specs.Rows.{onesIn, groupOf, cut, groupsFor, groupsOf, rowsOf}
 use Rattle.words.specs.Words.{Run, addFill, addGroup, runsOf, encode, packed}
-use Rattle.words.proofs.Groups.{length-groupsOf}
+use Rattle.groups.proofs.Groups.{length-groupsOf}
 use Rattle.words.proofs.Ones.{onesIn-append}
-use Rattle.words.proofs.RowsBack.{groups-whole}
+use Rattle.groups.proofs.RowsBack.{groups-whole}
 use Rattle.words.proofs.Runs.{Apart, by-fill, by-group}
 use Rattle.words.proofs.Round.{Groups}
 

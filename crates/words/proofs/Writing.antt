@@ -9,7 +9,7 @@ use Rattle.words.specs.Words.{encode}
 use Rattle.words.specs.Writer.{after, written, lastWords, Takes}
 use Rattle.words.specs.declared.writer.Pending.{Pending}
 use Rattle.words.specs.declared.writer.Step.{Step}
-use Rattle.words.proofs.Sets.{sets-front, sets-behind, drop-further}
+use Rattle.groups.proofs.Sets.{sets-front, sets-behind, drop-further}
 
 pub written-length : (step : Step) → step .words ≤ 2 → length (written step) ≡ step .words
 written-length step h = go (step .words) h

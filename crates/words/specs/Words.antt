@@ -3,8 +3,8 @@ use mathlib.Core.Bool.{Bool, true, false, not, cond, _&&_}
 use mathlib.Core.List.{List, [], _∷_, _++_, map}
 use Prim.Native.Nat.{ℕ, suc, _+_, _*_, _/_, _%_}
 use lib.Dec.{ltb, eqb}
-use lib.ListN.{length, replicate}
-use Rattle.words.specs.Rows.{groupsFor, groupsOf, clearFrom}
+use lib.ListN.{length, take, replicate}
+use Rattle.groups.specs.Rows.{groupsFor, groupsOf, rowsOf, clearFrom}
 
 -- what a word stands for: one group, or a bit and how many groups of it
 pub data Run : Type 0 where
@@ -69,6 +69,10 @@ encode groups = map wordOf (runsOf groups)
 -- the canonical list of some rows
 unfoldable pub packed : List ℕ → List ℕ
 packed rows = encode (groupsOf rows)
+
+-- the L rows of a list
+abbrev pub unpacked : ℕ → List ℕ → List ℕ
+unpacked rows list = take rows (rowsOf (decode list))
 
 -- stands for the bit of the fill just before where there is no fill just before
 abbrev pub noFill : ℕ

@@ -5,7 +5,7 @@ use mathlib.Core.List.{List}
 use Prim.Native.Nat.{ℕ, _+_, _*_, _<_, _≤_}
 use native.Mathlib.Omega.{arith}
 use lib.ListN.{length, getD}
-use Rattle.words.specs.Rows.{rowLimit, onesIn, rowsOf}
+use Rattle.groups.specs.Rows.{rowLimit, onesIn, rowsOf}
 use Rattle.words.specs.Words.{decode, canonical}
 use Rattle.words.specs.Check.{checkOf}
 use Rattle.words.specs.declared.check.Checked.the-variants.{Whole, Bad}

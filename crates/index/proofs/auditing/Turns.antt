@@ -8,13 +8,13 @@ use native.Mathlib.Decide.{decLt}
 use native.Mathlib.Omega.{arith}
 use lib.Dec.{T, leb}
 use lib.ListN.{length, take, drop, replicate}
-use Rattle.words.specs.Rows.{Groups}
+use Rattle.groups.specs.Rows.{Groups}
 use Rattle.lists.specs.Combine.{either, combined, apart}
 use Rattle.blocks.specs.Shape.{fenceCount}
-use Rattle.values.specs.Audit.{soundLists}
+use Rattle.audits.specs.Audit.{soundLists}
 use Rattle.blocks.specs.Block.{part, valueLength, current}
 use Rattle.blocks.proofs.Sizes.{few-groups}
-use Rattle.values.proofs.SoundLists.{sound-parts}
+use Rattle.audits.proofs.SoundLists.{sound-parts}
 use Rattle.steps.specs.Alter.{Fenced, blockIn, listIn}
 use Rattle.steps.specs.Entry.{Planned}
 use Rattle.steps.specs.Fences.{rightFences}

@@ -11,9 +11,9 @@ use Rattle.answers.specs.declared.Answer.{Answer}
 use Rattle.answers.specs.declared.Answer.the-variants.{Refused}
 use Rattle.answers.specs.declared.Refusal.{Refusal}
 use Rattle.answers.specs.declared.Refusal.the-variants.{Damaged, OutSmall}
-use Rattle.words.specs.Rows.{rowLimit}
+use Rattle.groups.specs.Rows.{rowLimit}
 use Rattle.steps.specs.Entry.{Planned, enteredIndex}
-use Rattle.steps.specs.Dumping.{valuesHold, markedValues, rowsGiven}
+use Rattle.dumps.specs.Dumping.{valuesHold, markedValues, rowsGiven}
 use Rattle.steps.specs.Memory.{Memory, memoryOf, every}
 use Rattle.steps.specs.Reading.{rowOf, isDamaged}
 use Rattle.index.specs.Calls.{bytesOf, dumpOutcome}

@@ -6,10 +6,10 @@ use Prim.Native.Nat.{ℕ, _+_, _*_, _<_, _≤_, _^_}
 use native.Mathlib.Omega.{arith}
 use lib.Dec.{T}
 use lib.ListN.{length, getD}
-use Rattle.words.specs.Rows.{rowLimit}
+use Rattle.groups.specs.Rows.{rowLimit}
 use Rattle.steps.specs.Entry.{Planned}
 use Rattle.steps.specs.Alter.{Suits, blockIn}
-use Rattle.steps.specs.Dumping.{fencesFor, fenceHolds, fenceMarked, fenceNumber, fencesHold, markedFences, valuesHold, markedValues}
+use Rattle.dumps.specs.Dumping.{fencesFor, fenceHolds, fenceMarked, fenceNumber, fencesHold, markedFences, valuesHold, markedValues}
 use Rattle.steps.specs.Fences.{noFence}
 use Rattle.steps.specs.Memory.{Memory, memoryOf}
 use Rattle.steps.specs.declared.header.Header.{Header}

@@ -9,17 +9,17 @@ use lib.ListN.{length}
 use Rattle.blocks.specs.Shape.{blockSize}
 use Rattle.blocks.specs.Block.{write, valueLength}
 use Rattle.blocks.proofs.Sizes.{place-fits}
-use Rattle.values.specs.Column.{loaded}
-use Rattle.values.proofs.Columns.{whole-loaded}
+use Rattle.columns.specs.Column.{loaded}
+use Rattle.columns.proofs.Columns.{whole-loaded}
 use Rattle.steps.specs.Entry.{Planned}
 use Rattle.steps.specs.Alter.{Fenced, blockIn, isWhole, renewedFences}
 use Rattle.steps.specs.Memory.{Memory, memoryOf, shapeOf, blockAt}
-use Rattle.steps.specs.Spread.{Blocks, loadedWords}
+use Rattle.columns.specs.Spread.{Blocks, loadedWords}
 use Rattle.index.specs.Calls.{withBlock, renewed, loadedIn}
 use Rattle.steps.specs.declared.header.Header.{Header}
 use Rattle.steps.specs.declared.header.Fence.{Fence}
 use Rattle.steps.specs.declared.entry.Plan.{Plan}
-use Rattle.steps.proofs.Loading.{loads-none, loads-next, loads-block}
+use Rattle.columns.proofs.Loading.{loads-none, loads-next, loads-block}
 use Rattle.index.proofs.Planning.{one-more, numbers, limits, fenced}
 use Rattle.index.proofs.changing.Steps.{whole-short, still-fenced}
 

@@ -12,12 +12,13 @@ use lib.ListN.{length, take, replicate}
 use lib.Pow.{mod-pow-add}
 use lib.Seq.{take-all, drop-nil}
 use borrow.Author.Tests.{leb-true, leb-false, le-leb, lt-leb, ne-eqb}
-use Rattle.words.specs.Rows.{rowsOf, clearFrom}
+use Rattle.groups.specs.Rows.{rowsOf, clearFrom}
 use Rattle.words.specs.Words.{span, groupIn, decode}
 use Rattle.words.proofs.Forms.{runAt, decode-upto, length-upto}
-use Rattle.words.proofs.Groups.{rowsOf-append, rowsOf-uniform}
-use Rattle.words.proofs.Tail.{lastOf, last-repeated, clear-tail, clearFrom-rowAt, rowAt-clearFrom}
-use Rattle.words.proofs.Zeros.{zeros-behind}
+use Rattle.groups.proofs.Groups.{rowsOf-append}
+use Rattle.words.proofs.Uniform.{rowsOf-uniform}
+use Rattle.groups.proofs.Tail.{lastOf, last-repeated, clear-tail, clearFrom-rowAt, rowAt-clearFrom}
+use Rattle.groups.proofs.Zeros.{zeros-behind}
 use Rattle.lists.specs.Combine.{Filled, Covers}
 use Rattle.lists.proofs.Covering.{word-small}
 

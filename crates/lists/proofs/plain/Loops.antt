@@ -9,9 +9,9 @@ use lib.Bits.{bitXor, bitAnd, bitOr}
 use lib.Dec.{eqb}
 use lib.ListN.{length, getD, drop, set, replicate, length-set, length-replicate, getD-replicate, drop-of-length-le}
 use lib.Seq.{paste, paste-zero, drop-paste, getD-drop}
-use Rattle.words.specs.Rows.{Groups, allZero}
-use Rattle.words.proofs.Sets.{copies, copied}
-use Rattle.words.proofs.Zeros.{gathered-more, gathered-all}
+use Rattle.groups.specs.Rows.{Groups, allZero}
+use Rattle.groups.proofs.Sets.{copies, copied}
+use Rattle.groups.proofs.Zeros.{gathered-more, gathered-all}
 use Rattle.lists.specs.Combine.{exclusive, shared, either, combined, apart}
 use Rattle.lists.proofs.Operations.{xor-onGroup, and-onGroup, or-onGroup}
 use Rattle.lists.proofs.Combining.{length-combined, getD-combined}

@@ -6,10 +6,10 @@ use native.Mathlib.Omega.{arith}
 use lib.ListN.{length, take, drop, replicate, length-append, length-drop}
 use lib.Seq.{take-all, take-at, drop-at, take-add, drop-drop, length-take-le}
 use borrow.Rule.Slice.PartMut.{midOf, postOf, putMid, mid-len}
-use Rattle.words.specs.Rows.{Groups}
+use Rattle.groups.specs.Rows.{Groups}
 use Rattle.words.specs.Words.{span, groupIn, decode}
 use Rattle.words.proofs.Forms.{runAt, decode-upto, length-upto, length-split}
-use Rattle.words.proofs.Groups.{groups-take, groups-drop, groups-append}
+use Rattle.groups.proofs.Groups.{groups-take, groups-drop, groups-append}
 use Rattle.lists.specs.Combine.{exclusive, combined}
 use Rattle.lists.proofs.Operations.{exclusive-bits}
 use Rattle.lists.proofs.Combining.{length-combined, combined-append, combined-lt}

@@ -7,11 +7,11 @@ use native.Mathlib.Nat.{one-mul, mul-le-mul-left}
 use lib.Count.{ones}
 use lib.ListN.{length, take}
 use lib.Seq.{take-all}
-use Rattle.words.specs.Rows.{rowLimit, onesIn, bitsOf, rowsOf}
+use Rattle.groups.specs.Rows.{rowLimit, onesIn, bitsOf, rowsOf}
 use Rattle.words.specs.Words.{runOf, span, groupIn, decode}
 use Rattle.words.proofs.Forms.{runAt, groupsOfRun, decode-upto, length-split, length-from, length-upto}
 use Rattle.words.proofs.Ones.{onesIn-append, onesIn-bitsOf, onesIn-le, onesIn-uniform, onesIn-replicate}
-use Rattle.words.proofs.Groups.{rowsOf-append}
+use Rattle.groups.proofs.Groups.{rowsOf-append}
 use Rattle.words.proofs.word.Reading.{reads-literal, reads-fill}
 
 -- ---- one word

@@ -7,12 +7,12 @@ use native.Mathlib.Omega.{arith}
 use lib.Dec.{eqb}
 use lib.ListN.{length, take, length-map}
 use lib.Seq.{take-all}
-use Rattle.words.specs.Rows.{groupsFor}
+use Rattle.groups.specs.Rows.{groupsFor}
 use Rattle.words.specs.Words.{Run, runOf, span, groupIn, groupsIn, decode, noFill, keepsForm, bitAfter, wellFormed}
 use Rattle.words.specs.Check.{checkOf}
 use Rattle.words.specs.declared.check.Checked.the-variants.{Whole, Bad}
 use Rattle.words.proofs.Forms.{runAt, bitPast, keeps-covers, keeps-first, length-groups, form-upto, decode-upto}
-use Rattle.words.proofs.Tail.{lastOf, last-repeated, clear-tail}
+use Rattle.groups.proofs.Tail.{lastOf, last-repeated, clear-tail}
 use Rattle.words.proofs.check.Verdict.{not-formed, not-long, as-clear}
 
 -- ---- a word a group at most

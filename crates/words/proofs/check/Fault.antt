@@ -7,7 +7,7 @@ use lib.Bits.{bitOr}
 use lib.Dec.{eqb, ltb}
 use borrow.Author.Tests.{eqb-true, eqb-false, eq-eqb, ne-eqb, lt-ltb, le-ltb, ltb-true, ltb-false}
 use Rattle.words.specs.Words.{allOnes, runOf, keepsForm, bitAfter}
-use Rattle.words.proofs.Zeros.{both-zero}
+use Rattle.groups.proofs.Zeros.{both-zero}
 use Rattle.words.proofs.word.Reading.{reads-literal, reads-fill}
 
 -- two tests with one answer

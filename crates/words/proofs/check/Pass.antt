@@ -11,7 +11,7 @@ use lib.Seq.{take-all}
 use borrow.Author.Tests.{ltb-true, ltb-false}
 use Rattle.words.specs.Words.{runOf, span, decode, noFill, keepsForm, bitAfter, wellFormed}
 use Rattle.words.proofs.Forms.{runAt, length-upto, form-from, form-end}
-use Rattle.words.proofs.Zeros.{both-zero}
+use Rattle.groups.proofs.Zeros.{both-zero}
 use Rattle.words.proofs.word.Reading.{reads-literal, reads-fill}
 
 -- a word covers fewer groups than its 30 bits can count

@@ -5,7 +5,7 @@ use mathlib.Core.List.{List, map}
 use Prim.Native.Nat.{ℕ}
 use lib.ListN.{length}
 use borrow.Author.Tests.{eq-eqb, ne-eqb}
-use Rattle.words.specs.Rows.{groupsFor, clearFrom}
+use Rattle.groups.specs.Rows.{groupsFor, clearFrom}
 use Rattle.words.specs.Words.{runOf, decode, noFill, wellFormed, canonical}
 use Rattle.words.specs.Check.{checkOf}
 use Rattle.words.specs.declared.check.Checked.the-variants.{Whole, Bad}

@@ -49,10 +49,10 @@ use Rattle.walks.proofs.Lend.{ref}
 use Rattle.walks.proofs.Flow.{frees-all, empties}
 use Rattle.walks.proofs.Front.{refronted, front-length}
 use Rattle.walks.proofs.Calls.{contractOf, calls-front-front, calls-plain}
-use Rattle.words.proofs.rows.smaller as words-rows-smaller-F
-use Rattle.words.proofs.rows.smaller.Symbol as words-rows-smaller-def
-use Rattle.words.proofs.rows.smaller.Symbol.{name as #words·words-rows-smaller}
-use Rattle.words.proofs.rows.smaller.Met as words-rows-smaller-thm
+use Rattle.groups.proofs.rows.smaller as words-rows-smaller-F
+use Rattle.groups.proofs.rows.smaller.Symbol as words-rows-smaller-def
+use Rattle.groups.proofs.rows.smaller.Symbol.{name as #words·words-rows-smaller}
+use Rattle.groups.proofs.rows.smaller.Met as words-rows-smaller-thm
 use Rattle.desk.proofs.lending.ask as desk-lending-ask-F
 use Rattle.desk.proofs.lending.ask.Symbol as desk-lending-ask-def
 use Rattle.desk.proofs.lending.ask.Symbol.{name as #desk·desk-lending-ask}

@@ -40,11 +40,11 @@ use denote.Triple.Spec.{Meets, tripleOf}
 use denote.Triple.Statement.{Triple}
 use denote.Triple.Table.{entered, cited}
 use denote.Triple.Walked.{says, needs, Stays, stay-slice, stay-dropped, walkOf, Walks, ends-at, walked, goes-slice, goes-dropped, walk-meets}
-use Rattle.steps.specs.Dumping.{fencesFor, fencesHold, markedFences, fenceHolds, fenceMarked}
+use Rattle.dumps.specs.Dumping.{fencesFor, fencesHold, markedFences, fenceHolds, fenceMarked}
 use Rattle.steps.specs.Entry.{Planned}
 use Rattle.steps.specs.Memory.{memoryOf}
 use Rattle.index.proofs.dumping.Turns.{count-asks, FencesSeen, none-visited, first-fits, fence-fits, fence-asks, fence-seen, fence-damaged, all-visited}
-use Rattle.words.specs.Rows.{rowLimit}
+use Rattle.groups.specs.Rows.{rowLimit}
 use Rattle.steps.specs.Alter.{Suits, blockIn}
 use Rattle.steps.specs.Fences.{noFence}
 use Rattle.steps.specs.declared.header.Fence.{Fence}
@@ -59,18 +59,18 @@ use Rattle.steps.proofs.entry.Plan.Laws as Plan-L
 use Rattle.walks.proofs.Lend.{ref}
 use Rattle.walks.proofs.Flow.{Nearer, Nearer-wf, told, tests, while-loops, assigns-again, turn-returns, frees-all, below-word, next-le, next-nearer, widen-32-64}
 use Rattle.walks.proofs.Calls.{contractOf, calls-plain, calls-shr, calls-shr-mut}
-use Rattle.steps.proofs.dump.fences_for as fences-for-F
-use Rattle.steps.proofs.dump.fences_for.Symbol as fences-for-def
-use Rattle.steps.proofs.dump.fences_for.Symbol.{name as #steps·fences-for}
-use Rattle.steps.proofs.dump.fences_for.Met as fences-for-thm
+use Rattle.dumps.proofs.dump.fences_for as fences-for-F
+use Rattle.dumps.proofs.dump.fences_for.Symbol as fences-for-def
+use Rattle.dumps.proofs.dump.fences_for.Symbol.{name as #dumps·fences-for}
+use Rattle.dumps.proofs.dump.fences_for.Met as fences-for-thm
 use Rattle.index.proofs.fences.fence_at as fence-at-F
 use Rattle.index.proofs.fences.fence_at.Symbol as fence-at-def
 use Rattle.index.proofs.fences.fence_at.Symbol.{name as #index·fence-at}
 use Rattle.index.proofs.fences.fence_at.Met as fence-at-thm
-use Rattle.steps.proofs.dump.mark_fence as mark-fence-F
-use Rattle.steps.proofs.dump.mark_fence.Symbol as mark-fence-def
-use Rattle.steps.proofs.dump.mark_fence.Symbol.{name as #steps·mark-fence}
-use Rattle.steps.proofs.dump.mark_fence.Met as mark-fence-thm
+use Rattle.dumps.proofs.dump.mark_fence as mark-fence-F
+use Rattle.dumps.proofs.dump.mark_fence.Symbol as mark-fence-def
+use Rattle.dumps.proofs.dump.mark_fence.Symbol.{name as #dumps·mark-fence}
+use Rattle.dumps.proofs.dump.mark_fence.Met as mark-fence-thm
 use Rattle.index.proofs.dumping.mark_value.Key.{name as #index·mark-value}
 use Rattle.index.proofs.dumping.mark_value as mark-value-F
 use Rattle.index.proofs.dumping.mark_value.Statement as stated
@@ -126,7 +126,7 @@ module _ {M : Type 1} (𝓤 : URA M) (H : Heap 𝓤) (A : Atoms 𝓤) (W : Given
       suffices ! _ (ends-at 𝓤 H A mark-value-F.ended stayed (mark-value-F.clauses 𝓤 H A mem run) W bound-of u r (tt, (tt, (rows′, (tt, (tt, (tt, tt)))))) (tt, (tt, (n-rows′, (tt, (tt, (tt, tt))))))) $ says ! e $
       nothing ! $ move ! (3 ∷ 0 ∷ []) $ join ! $ move ! (2 ∷ 0 ∷ []) $ join ! $ move ! (1 ∷ 0 ∷ []) $ join ! $ frame ! $ nothing ! $ nothing ! $ fjoin ! $ nothing ! $ fjoin ! $ nothing ! $ fjoin ! $ move ! (1 ∷ 0 ∷ []) $ fjoin ! $ nothing ! $ fjoin ! $ nothing ! $ fjoin ! $ frame ! $ owned ! Boolean (Is Boolean) (bool-makes 𝓤 H A W) r _ is $ done !
 
-  module _ (𝓣 : Tables 𝓤 H) (fm : FmC 𝓤 H (W .laws) (𝓣 .C)) (known-fences-for : Triple 𝓤 (𝓣 .C #steps·fences-for) (contractOf 𝓤 H A fences-for-F.ended (fences-for-F.clauses 𝓤 H A mem run))) (known-fence-at : Triple 𝓤 (𝓣 .C #index·fence-at) (contractOf 𝓤 H A fence-at-F.ended (fence-at-F.clauses 𝓤 H A mem run))) (known-mark-fence : Triple 𝓤 (𝓣 .C #steps·mark-fence) (contractOf 𝓤 H A mark-fence-F.ended (mark-fence-F.clauses 𝓤 H A mem run))) where
+  module _ (𝓣 : Tables 𝓤 H) (fm : FmC 𝓤 H (W .laws) (𝓣 .C)) (known-fences-for : Triple 𝓤 (𝓣 .C #dumps·fences-for) (contractOf 𝓤 H A fences-for-F.ended (fences-for-F.clauses 𝓤 H A mem run))) (known-fence-at : Triple 𝓤 (𝓣 .C #index·fence-at) (contractOf 𝓤 H A fence-at-F.ended (fence-at-F.clauses 𝓤 H A mem run))) (known-mark-fence : Triple 𝓤 (𝓣 .C #dumps·mark-fence) (contractOf 𝓤 H A mark-fence-F.ended (mark-fence-F.clauses 𝓤 H A mem run))) where
     walk : Room u32 (length words) → Room Fence-T.the-row (length fences) → Room u8 (length rows) → Is Header-T.the-row header (SL.vals Header-T.the-type Header-L.the-laws header) → Is Plan-T.the-row plan (SL.vals Plan-T.the-type Plan-L.the-laws plan) → value < 2 ^ 32 → Planned header plan (length words) (length fences) × (value < header .values) × (header .issued ≤ length rows) → ent 𝓤 (onEntry 𝓤 H A mark-value-F.signature (κ₀, (κ₁, (κ₂, tt))) (q₀, (q₁, (q₂, tt))) args-of vals-of) (WpFn 𝓤 H (𝓣 .C) (𝓣 .Λ) code.function (sliceVal (b₀, o₀) (length words) ∷ sliceVal (b₁, o₁) (length fences) ∷ sliceVal (b₂, o₂) (length rows) ∷ SL.val Header-T.the-type Header-L.the-laws header ∷ SL.val Plan-T.the-type Plan-L.the-laws plan ∷ vint w32 value ∷ []) Post)
     walk room-words room-fences room-rows is-header is-plan fit-value req =
         qed W ((‵ (flft κ₀ q₀) ⊛ (‵ (flft κ₁ q₁) ⊛ (‵ (flft κ₂ q₂) ⊛ ‵ ftrue))) ∷ ‵ (owns (ShrSlice (named 0) κ₀ u32 ∷ ShrSlice (named 1) κ₁ Fence-T.the-row ∷ MutSlice (named 2) κ₂ u8 ∷ Header-T.the-row ∷ Plan-T.the-row ∷ u32 ∷ []) args-of vals-of) ∷ []) ∵ enter ! (𝓣 .C) (𝓣 .Λ) code.function (sliceVal (b₀, o₀) (length words) ∷ sliceVal (b₁, o₁) (length fences) ∷ sliceVal (b₂, o₂) (length rows) ∷ SL.val Header-T.the-type Header-L.the-laws header ∷ SL.val Plan-T.the-type Plan-L.the-laws plan ∷ vint w32 value ∷ []) _ $
@@ -134,7 +134,7 @@ module _ {M : Type 1} (𝓤 : URA M) (H : Heap 𝓤) (A : Atoms 𝓤) (W : Given
         pass1 ! (init ! 30 refl (tt, (tt, (record { fits = room-words .0 }, tt)))) $ pass1 ! (init ! 28 refl (tt, (tt, (record { fits = room-fences .0 }, tt)))) $ pass1 ! (init ! 26 refl (tt, (tt, (record { fits = room-rows .0 }, tt)))) $ pass1 ! (init ! 24 refl (SL.lawful Header-T.the-type Header-L.the-laws 𝓤 H A W .typed header (SL.vals Header-T.the-type Header-L.the-laws header) is-header .0)) $ pass1 ! (init ! 22 refl (SL.lawful Plan-T.the-type Plan-L.the-laws 𝓤 H A W .typed plan (SL.vals Plan-T.the-type Plan-L.the-laws plan) is-plan .0)) $ pass1 ! (init ! 20 refl (tt, record { fits = fit-value })) $ pass0 ! $
         move ! (35 ∷ []) $ fsplit ! $ move ! (1 ∷ []) $ fsplit ! $ move ! (1 ∷ []) $ fsplit ! $ move ! (1 ∷ []) $ fsplit ! $ drop ! $ fsplit ! $ drop ! $ fsplit ! $ drop ! $ drop ! $ move ! (37 ∷ []) $ split ! $ move ! (1 ∷ []) $ split ! $ move ! (1 ∷ []) $ split ! $ move ! (1 ∷ []) $ drop ! $ move ! (2 ∷ 5 ∷ 1 ∷ 4 ∷ 0 ∷ 3 ∷ []) $
         -- [words's token; words; fences's token; fences; rows's token; rows; _16; …; _0; …]
-        -- steps::dump::fences_for
+        -- dumps::dump::fences_for
         calls-plain ! fm usize (plain (λ _. u32) ∷ plain (λ _. u32) ∷ []) (yes, (yes, tt)) (fences-for-F.clauses 𝓤 H A mem run) known-fences-for
         (λ κs. ((header .issued), ((header .spacing), tt))) (λ κs. (vint w32 (header .issued) ∷ [], (vint w32 (header .spacing) ∷ [], tt))) (λ κs. owns-make 𝓤 H A (u32 ∷ u32 ∷ []) (Ises (u32 ∷ u32 ∷ [])) (uint-makes 𝓤 H A W w32, (uint-makes 𝓤 H A W w32, tt)) ((header .issued), ((header .spacing), tt)) (vint w32 (header .issued) ∷ [], (vint w32 (header .spacing) ∷ [], tt)) ((refl, (SL.owed Header-T.the-type Header-L.the-laws header _ is-header .1 .0 .1)), ((refl, (SL.owed Header-T.the-type Header-L.the-laws header _ is-header .1 .1 .1 .1 .0 .1)), tt))) (λ κs. tt) (λ κs. factI 𝓤 (((header .issued) ≤ rowLimit) × (1 ≤ (header .spacing)) × ((header .spacing) ≤ 256)) (emp 𝓤) (call-1 words fences rows header plan value req))
         (λ r1. (r1 ≡ fencesFor (header .issued) (header .spacing)) × (r1 ≤ 4096)) (λ κs r1 ws. id⊢ 𝓤 _) (λ κs. (and-then ! (load ! (from ! (fld ! refl (stop !))) (look-in ! 31 (sub ! 1 refl (whole !)))) (and-then ! (load ! (from ! (fld ! refl (stop !))) (look-in ! 31 (sub ! 4 refl (whole !)))) (no-more !))))
@@ -160,7 +160,7 @@ module _ {M : Type 1} (𝓤 : URA M) (H : Heap 𝓤) (A : Atoms 𝓤) (W : Given
         assigns ! (addr ! (from ! (fld ! refl (hop ! (look-in ! 32 (sub ! 0 refl (whole !))) (stop !))))) (from ! (stop !)) (init ! 10 refl (tt, tt)) $
         assigns ! (agg ! (and-then ! (load ! (from ! (stop !)) (look ! 10 refl)) (and-then ! (load ! (from ! (fld ! refl (stop !))) (look-in ! 32 (sub ! 1 refl (whole !)))) (no-more !)))) (from ! (stop !)) (init ! 8 refl (tt, (tt, (record { fits = room-rows .0 }, tt)))) $
         move ! (2 ∷ 3 ∷ 4 ∷ 5 ∷ []) $
-        -- steps::dump::mark_fence
+        -- dumps::dump::mark_fence
         calls-shr-mut ! fm u32 u8 Boolean (plain (λ _. Plan-T.the-row) ∷ plain (λ _. Fence-T.the-row) ∷ plain (λ _. u32) ∷ plain (λ _. u32) ∷ plain (λ _. usize) ∷ []) (yes, (yes, (yes, (yes, (yes, tt))))) (mark-fence-F.clauses 𝓤 H A mem run) known-mark-fence b₀ o₀ γ₀ words (length words) refl b₂ o₂ γ₂ (x .1 .0) (length rows) (x .1 .1 .1 .0)
         (λ κs. (plan, (r2, ((header .issued), (value, ((x .0), tt)))))) (λ κs. (SL.val Plan-T.the-type Plan-L.the-laws plan ∷ [], (SL.val Fence-T.the-type Fence-L.the-laws r2 ∷ [], (vint w32 (header .issued) ∷ [], (vint w32 value ∷ [], (vint w64 (x .0) ∷ [], tt)))))) (λ κs. owns-make 𝓤 H A (Plan-T.the-row ∷ Fence-T.the-row ∷ u32 ∷ u32 ∷ usize ∷ []) (Ises (Plan-T.the-row ∷ Fence-T.the-row ∷ u32 ∷ u32 ∷ usize ∷ [])) (SL.makes Plan-T.the-type Plan-L.the-plain 𝓤 H A, (SL.makes Fence-T.the-type Fence-L.the-plain 𝓤 H A, (uint-makes 𝓤 H A W w32, (uint-makes 𝓤 H A W w32, (uint-makes 𝓤 H A W w64, tt))))) (plan, (r2, ((header .issued), (value, ((x .0), tt))))) (SL.val Plan-T.the-type Plan-L.the-laws plan ∷ [], (SL.val Fence-T.the-type Fence-L.the-laws r2 ∷ [], (vint w32 (header .issued) ∷ [], (vint w32 value ∷ [], (vint w64 (x .0) ∷ [], tt))))) (is-plan, ((told Fence-T.the-type Fence-L.the-laws r2 _ is2), ((refl, (SL.owed Header-T.the-type Header-L.the-laws header _ is-header .1 .0 .1)), ((refl, fit-value), ((refl, (below-word (x .1 .1 .0) (is1 .1))), tt)))))) (λ κs δ₀ δ₁. tt) (λ κs δ₀ δ₁. factI 𝓤 (Suits plan (length words) value × (value < 256) × ((header .issued) ≤ plan .shape .rows) × ((header .issued) ≤ length (x .1 .0)) × ((x .0) < fencesFor (header .issued) (plan .shape .spacing))) (emp 𝓤) (call-3 words fences rows header plan value req r1 e1 (x .0) (x .1 .0) (x .1 .1 .1 .0) (ltb→lt (x .0) r1 less-h)))
         (λ r3 rows3. (r3 ≡ fenceHolds (plan .shape) (r2 .place) (r2 .first) (blockIn plan words value) (header .issued) (x .0) (x .1 .0)) × (r3 ≡ true → rows3 ≡ fenceMarked (plan .shape) (r2 .place) (r2 .first) (blockIn plan words value) (header .issued) (x .0) value (x .1 .0))) (λ κs δ₀ δ₁ r3 ws. id⊢ 𝓤 _) (λ κs δ₀ δ₁. (and-then ! (load ! (from ! (stop !)) (look ! 36 refl)) (and-then ! (load ! (from ! (stop !)) (look ! 8 refl)) (and-then ! (load ! (from ! (stop !)) (look ! 28 refl)) (and-then ! (load ! (from ! (stop !)) (look ! 18 refl)) (and-then ! (load ! (from ! (fld ! refl (stop !))) (look-in ! 30 (sub ! 1 refl (whole !)))) (and-then ! (load ! (from ! (stop !)) (look ! 26 refl)) (and-then ! (load ! (from ! (stop !)) (look ! 20 refl)) (no-more !)))))))))
@@ -188,12 +188,12 @@ module _ {M : Type 1} (𝓤 : URA M) (H : Heap 𝓤) (A : Atoms 𝓤) (W : Given
         by ! (exits (vbool true) true (x .1 .0) (x .1 .1 .1 .0) (exit-2 words fences rows header plan value req r1 e1 (x .0) (x .1 .0) (x .1 .1 .1 .1) (le-antisymm (x .1 .1 .0) (nltb→le (x .0) r1 done-h))) refl))) (0, (rows, (zero-le, (refl, (loop-start words fences rows header plan value req)))))))))))))))))))))))
 
 module _ {M : Type 1} (𝓤 : URA M) (H : Heap 𝓤) (A : Atoms 𝓤) (W : Given 𝓤 H A) (mem : Memory → SProp 𝓤) (run : Routine → Fun 𝓤) where
-  mark-value-walks : (𝓣 : Tables 𝓤 H) → Triple 𝓤 (𝓣 .C #steps·fences-for) (contractOf 𝓤 H A fences-for-F.ended (fences-for-F.clauses 𝓤 H A mem run)) → Triple 𝓤 (𝓣 .C #index·fence-at) (contractOf 𝓤 H A fence-at-F.ended (fence-at-F.clauses 𝓤 H A mem run)) → Triple 𝓤 (𝓣 .C #steps·mark-fence) (contractOf 𝓤 H A mark-fence-F.ended (mark-fence-F.clauses 𝓤 H A mem run)) → Walks 𝓤 H A mark-value-F.ended stayed (WpFn 𝓤 H (𝓣 .C) (𝓣 .Λ) code.function) (mark-value-F.clauses 𝓤 H A mem run)
+  mark-value-walks : (𝓣 : Tables 𝓤 H) → Triple 𝓤 (𝓣 .C #dumps·fences-for) (contractOf 𝓤 H A fences-for-F.ended (fences-for-F.clauses 𝓤 H A mem run)) → Triple 𝓤 (𝓣 .C #index·fence-at) (contractOf 𝓤 H A fence-at-F.ended (fence-at-F.clauses 𝓤 H A mem run)) → Triple 𝓤 (𝓣 .C #dumps·mark-fence) (contractOf 𝓤 H A mark-fence-F.ended (mark-fence-F.clauses 𝓤 H A mem run)) → Walks 𝓤 H A mark-value-F.ended stayed (WpFn 𝓤 H (𝓣 .C) (𝓣 .Λ) code.function) (mark-value-F.clauses 𝓤 H A mem run)
   mark-value-walks 𝓣 known-fences-for known-fence-at known-mark-fence =
       walked 𝓤 H A mark-value-F.ended stayed (mark-value-F.clauses 𝓤 H A mem run) (WpFn 𝓤 H (𝓣 .C) (𝓣 .Λ) code.function) (λ κs. (slice-vals, (slice-vals, (slice-vals, (SL.vals Header-T.the-type Header-L.the-laws, (SL.vals Plan-T.the-type Plan-L.the-laws, (uint-vals w32, tt))))))) (λ κs. (shr-slice-tells (named 0) (κs .0) u32, (shr-slice-tells (named 1) (κs .1 .0) Fence-T.the-row, (mut-slice-tells (named 2) (κs .1 .1 .0) u8, (SL.tells Header-T.the-type Header-L.the-laws, (SL.tells Plan-T.the-type Plan-L.the-laws, (uint-tells w32, tt)))))))
       (λ κs qs bounds a g are. needs 𝓤 _ _ (walk 𝓤 H A W mem run (κs .0) (κs .1 .0) (κs .1 .1 .0) (qs .0) (qs .1 .0) (qs .1 .1 .0) (a .0 .ptr .0) (a .0 .ptr .1) (a .0 .name) (a .0 .now) (a .1 .0 .ptr .0) (a .1 .0 .ptr .1) (a .1 .0 .name) (a .1 .0 .now) (a .1 .1 .0 .ptr .0) (a .1 .1 .0 .ptr .1) (a .1 .1 .0 .name) (a .1 .1 .0 .now) (a .1 .1 .1 .0) (a .1 .1 .1 .1 .0) (a .1 .1 .1 .1 .1 .0) 𝓣 (fmOf 𝓤 H (W .laws) 𝓣) known-fences-for known-fence-at known-mark-fence (are .0 .0 .1) (are .1 .0 .0 .1) (are .1 .1 .0 .0 .1) (are .1 .1 .1 .0) (are .1 .1 .1 .1 .0) (are .1 .1 .1 .1 .1 .0 .1)))
 
-mark-value-meets : {M : Type 1} (𝓤 : URA M) (H : Heap 𝓤) (A : Atoms 𝓤) (W : Given 𝓤 H A) (mem : Memory → SProp 𝓤) (run : Routine → Fun 𝓤) (𝓣 : Tables 𝓤 H) → Triple 𝓤 (𝓣 .C #steps·fences-for) (contractOf 𝓤 H A fences-for-F.ended (fences-for-F.clauses 𝓤 H A mem run)) → Triple 𝓤 (𝓣 .C #index·fence-at) (contractOf 𝓤 H A fence-at-F.ended (fence-at-F.clauses 𝓤 H A mem run)) → Triple 𝓤 (𝓣 .C #steps·mark-fence) (contractOf 𝓤 H A mark-fence-F.ended (mark-fence-F.clauses 𝓤 H A mem run)) → Meets 𝓤 H A mark-value-F.signature (WpFn 𝓤 H (𝓣 .C) (𝓣 .Λ) code.function) (mark-value-F.spec 𝓤 H A mem run)
+mark-value-meets : {M : Type 1} (𝓤 : URA M) (H : Heap 𝓤) (A : Atoms 𝓤) (W : Given 𝓤 H A) (mem : Memory → SProp 𝓤) (run : Routine → Fun 𝓤) (𝓣 : Tables 𝓤 H) → Triple 𝓤 (𝓣 .C #dumps·fences-for) (contractOf 𝓤 H A fences-for-F.ended (fences-for-F.clauses 𝓤 H A mem run)) → Triple 𝓤 (𝓣 .C #index·fence-at) (contractOf 𝓤 H A fence-at-F.ended (fence-at-F.clauses 𝓤 H A mem run)) → Triple 𝓤 (𝓣 .C #dumps·mark-fence) (contractOf 𝓤 H A mark-fence-F.ended (mark-fence-F.clauses 𝓤 H A mem run)) → Meets 𝓤 H A mark-value-F.signature (WpFn 𝓤 H (𝓣 .C) (𝓣 .Λ) code.function) (mark-value-F.spec 𝓤 H A mem run)
 mark-value-meets 𝓤 H A W mem run 𝓣 known-fences-for known-fence-at known-mark-fence =
     walk-meets 𝓤 H A mark-value-F.ended stayed W (goes-dropped 𝓤 H A W 3 (shrSliceOf (0 ∷ []) tt (plain (λ _. u32))) yes (λ κs x f. refl), (goes-dropped 𝓤 H A W 3 (shrSliceOf (1 ∷ []) tt (plain (λ _. Fence-T.the-row))) yes (λ κs x f. refl), (goes-slice 𝓤 H A W 3 2 tt (plain (λ _. u8)), (goes-dropped 𝓤 H A W 3 (plain (λ _. Header-T.the-row)) yes (λ κs x f. refl), (goes-dropped 𝓤 H A W 3 (plain (λ _. Plan-T.the-row)) yes (λ κs x f. refl), (goes-dropped 𝓤 H A W 3 (plain (λ _. u32)) yes (λ κs x f. refl), tt))))))
     (mark-value-F.clauses 𝓤 H A mem run) (WpFn 𝓤 H (𝓣 .C) (𝓣 .Λ) code.function) (WpFn-mono 𝓤 H (W .laws) 𝓣 code.function) (mark-value-walks 𝓤 H A W mem run 𝓣 known-fences-for known-fence-at known-mark-fence)
@@ -204,6 +204,6 @@ mark-value-spec 𝓤 H 𝓜 𝓖 𝓡 =
     entered 𝓤 H (tripleOf 𝓤 H (𝓖 .A) mark-value-F.signature (mark-value-F.spec 𝓤 H (𝓖 .A) (𝓜 .mem) (𝓡 .run)))
     (tables 𝓤 H 𝓜 𝓡 code.env .C) (tables 𝓤 H 𝓜 𝓡 code.env .Λ) #index·mark-value code.function (code.unfolded 𝓤 H 𝓜 𝓡)
     (mark-value-meets 𝓤 H (𝓖 .A) (givenOf 𝓤 H 𝓜 𝓖) (𝓜 .mem) (𝓡 .run) (tablesOf 𝓤 H 𝓜 (tables 𝓤 H 𝓜 𝓡 code.env))
-    (cited 𝓤 H (tripleOf 𝓤 H (𝓖 .A) fences-for-F.signature (fences-for-F.spec 𝓤 H (𝓖 .A) (𝓜 .mem) (𝓡 .run))) 𝓜 𝓡 code.env #steps·fences-for fences-for-def.routine code.calls-steps·dump·fences-for (fences-for-thm.met 𝓤 H 𝓜 𝓖 𝓡))
+    (cited 𝓤 H (tripleOf 𝓤 H (𝓖 .A) fences-for-F.signature (fences-for-F.spec 𝓤 H (𝓖 .A) (𝓜 .mem) (𝓡 .run))) 𝓜 𝓡 code.env #dumps·fences-for fences-for-def.routine code.calls-dumps·dump·fences-for (fences-for-thm.met 𝓤 H 𝓜 𝓖 𝓡))
     (cited 𝓤 H (tripleOf 𝓤 H (𝓖 .A) fence-at-F.signature (fence-at-F.spec 𝓤 H (𝓖 .A) (𝓜 .mem) (𝓡 .run))) 𝓜 𝓡 code.env #index·fence-at fence-at-def.routine code.calls-index·fences·fence-at (fence-at-thm.met 𝓤 H 𝓜 𝓖 𝓡))
-    (cited 𝓤 H (tripleOf 𝓤 H (𝓖 .A) mark-fence-F.signature (mark-fence-F.spec 𝓤 H (𝓖 .A) (𝓜 .mem) (𝓡 .run))) 𝓜 𝓡 code.env #steps·mark-fence mark-fence-def.routine code.calls-steps·dump·mark-fence (mark-fence-thm.met 𝓤 H 𝓜 𝓖 𝓡)))
+    (cited 𝓤 H (tripleOf 𝓤 H (𝓖 .A) mark-fence-F.signature (mark-fence-F.spec 𝓤 H (𝓖 .A) (𝓜 .mem) (𝓡 .run))) 𝓜 𝓡 code.env #dumps·mark-fence mark-fence-def.routine code.calls-dumps·dump·mark-fence (mark-fence-thm.met 𝓤 H 𝓜 𝓖 𝓡)))

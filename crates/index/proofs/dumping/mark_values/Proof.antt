@@ -40,7 +40,7 @@ use denote.Triple.Spec.{Meets, tripleOf}
 use denote.Triple.Statement.{Triple}
 use denote.Triple.Table.{entered, cited}
 use denote.Triple.Walked.{says, needs, Stays, stay-slice, stay-dropped, walkOf, Walks, ends-at, walked, goes-slice, goes-dropped, walk-meets}
-use Rattle.steps.specs.Dumping.{fencesFor, fencesHold, markedFences, valuesHold, markedValues}
+use Rattle.dumps.specs.Dumping.{fencesFor, fencesHold, markedFences, valuesHold, markedValues}
 use Rattle.steps.specs.Entry.{Planned}
 use Rattle.steps.specs.Memory.{memoryOf}
 use Rattle.index.proofs.dumping.Turns.{ValuesSeen, none-seen, value-asks, value-seen, value-damaged, all-seen}

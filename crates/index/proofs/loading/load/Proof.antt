@@ -63,10 +63,10 @@ use Rattle.answers.proofs.Refusal.Laws as Refusal-L
 use Rattle.walks.proofs.Lend.{ref}
 use Rattle.walks.proofs.Flow.{told, matches, frees-all}
 use Rattle.walks.proofs.Calls.{contractOf, calls-mut-mut-shr, calls-plain, calls-plain-last, calls-shr}
-use Rattle.steps.proofs.column.enter_load as enter-load-F
-use Rattle.steps.proofs.column.enter_load.Symbol as enter-load-def
-use Rattle.steps.proofs.column.enter_load.Symbol.{name as #steps·enter-load}
-use Rattle.steps.proofs.column.enter_load.Met as enter-load-thm
+use Rattle.columns.proofs.column.enter_load as enter-load-F
+use Rattle.columns.proofs.column.enter_load.Symbol as enter-load-def
+use Rattle.columns.proofs.column.enter_load.Symbol.{name as #columns·enter-load}
+use Rattle.columns.proofs.column.enter_load.Met as enter-load-thm
 use Rattle.steps.proofs.header.header_for as header-for-F
 use Rattle.steps.proofs.header.header_for.Symbol as header-for-def
 use Rattle.steps.proofs.header.header_for.Symbol.{name as #steps·header-for}
@@ -130,7 +130,7 @@ module _ {M : Type 1} (𝓤 : URA M) (H : Heap 𝓤) (A : Atoms 𝓤) (W : Given
       suffices ! _ (ends-at 𝓤 H A load-F.ended stayed (load-F.clauses 𝓤 H A mem run) W bound-of u r (words′, (fences′, (tt, (tt, (tt, (tt, (tt, tt))))))) (n-words′, (n-fences′, (tt, (tt, (tt, (tt, (tt, tt)))))))) $ says ! e $
       nothing ! $ move ! (5 ∷ 0 ∷ []) $ join ! $ move ! (3 ∷ 0 ∷ []) $ join ! $ move ! (1 ∷ 0 ∷ []) $ join ! $ frame ! $ nothing ! $ nothing ! $ fjoin ! $ nothing ! $ fjoin ! $ nothing ! $ fjoin ! $ nothing ! $ fjoin ! $ nothing ! $ fjoin ! $ move ! (2 ∷ 0 ∷ []) $ fjoin ! $ move ! (1 ∷ 0 ∷ []) $ fjoin ! $ frame ! $ owned ! Changed-T.the-row (Is Changed-T.the-row) (SL.makes Changed-T.the-type Changed-L.the-plain 𝓤 H A) r _ is $ done !
 
-  module _ (𝓣 : Tables 𝓤 H) (fm : FmC 𝓤 H (W .laws) (𝓣 .C)) (known-enter-load : Triple 𝓤 (𝓣 .C #steps·enter-load) (contractOf 𝓤 H A enter-load-F.ended (enter-load-F.clauses 𝓤 H A mem run))) (known-header-for : Triple 𝓤 (𝓣 .C #steps·header-for) (contractOf 𝓤 H A header-for-F.ended (header-for-F.clauses 𝓤 H A mem run))) (known-load-values : Triple 𝓤 (𝓣 .C #index·load-values) (contractOf 𝓤 H A load-values-F.ended (load-values-F.clauses 𝓤 H A mem run))) (known-done : Triple 𝓤 (𝓣 .C #steps·done) (contractOf 𝓤 H A done-F.ended (done-F.clauses 𝓤 H A mem run))) (known-no-header : Triple 𝓤 (𝓣 .C #steps·no-header) (contractOf 𝓤 H A no-header-F.ended (no-header-F.clauses 𝓤 H A mem run))) (known-refuse : Triple 𝓤 (𝓣 .C #steps·refuse) (contractOf 𝓤 H A refuse-F.ended (refuse-F.clauses 𝓤 H A mem run))) where
+  module _ (𝓣 : Tables 𝓤 H) (fm : FmC 𝓤 H (W .laws) (𝓣 .C)) (known-enter-load : Triple 𝓤 (𝓣 .C #columns·enter-load) (contractOf 𝓤 H A enter-load-F.ended (enter-load-F.clauses 𝓤 H A mem run))) (known-header-for : Triple 𝓤 (𝓣 .C #steps·header-for) (contractOf 𝓤 H A header-for-F.ended (header-for-F.clauses 𝓤 H A mem run))) (known-load-values : Triple 𝓤 (𝓣 .C #index·load-values) (contractOf 𝓤 H A load-values-F.ended (load-values-F.clauses 𝓤 H A mem run))) (known-done : Triple 𝓤 (𝓣 .C #steps·done) (contractOf 𝓤 H A done-F.ended (done-F.clauses 𝓤 H A mem run))) (known-no-header : Triple 𝓤 (𝓣 .C #steps·no-header) (contractOf 𝓤 H A no-header-F.ended (no-header-F.clauses 𝓤 H A mem run))) (known-refuse : Triple 𝓤 (𝓣 .C #steps·refuse) (contractOf 𝓤 H A refuse-F.ended (refuse-F.clauses 𝓤 H A mem run))) where
     walk : Room u32 (length words) → Room Fence-T.the-row (length fences) → Room u8 (length column) → rows < 2 ^ 32 → values < 2 ^ 32 → threshold < 2 ^ 32 → spacing < 2 ^ 32 → ent 𝓤 (onEntry 𝓤 H A load-F.signature (κ₀, (κ₁, (κ₂, tt))) (q₀, (q₁, (q₂, tt))) args-of vals-of) (WpFn 𝓤 H (𝓣 .C) (𝓣 .Λ) code.function (sliceVal (b₀, o₀) (length words) ∷ sliceVal (b₁, o₁) (length fences) ∷ sliceVal (b₂, o₂) (length column) ∷ vint w32 rows ∷ vint w32 values ∷ vint w32 threshold ∷ vint w32 spacing ∷ []) Post)
     walk room-words room-fences room-column fit-rows fit-values fit-threshold fit-spacing =
         qed W ((‵ (flft κ₀ q₀) ⊛ (‵ (flft κ₁ q₁) ⊛ (‵ (flft κ₂ q₂) ⊛ ‵ ftrue))) ∷ ‵ (owns (MutSlice (named 0) κ₀ u32 ∷ MutSlice (named 1) κ₁ Fence-T.the-row ∷ ShrSlice (named 2) κ₂ u8 ∷ u32 ∷ u32 ∷ u32 ∷ u32 ∷ []) args-of vals-of) ∷ []) ∵ enter ! (𝓣 .C) (𝓣 .Λ) code.function (sliceVal (b₀, o₀) (length words) ∷ sliceVal (b₁, o₁) (length fences) ∷ sliceVal (b₂, o₂) (length column) ∷ vint w32 rows ∷ vint w32 values ∷ vint w32 threshold ∷ vint w32 spacing ∷ []) _ $
@@ -141,7 +141,7 @@ module _ {M : Type 1} (𝓤 : URA M) (H : Heap 𝓤) (A : Atoms 𝓤) (W : Given
         assigns ! (of-opd ! (load ! (from ! (fld ! refl (stop !))) (look-in ! 46 (sub ! 1 refl (whole !))))) (from ! (stop !)) (init ! 24 refl (tt, record { fits = (room-words .0) })) $
         assigns ! (of-opd ! (load ! (from ! (fld ! refl (stop !))) (look-in ! 44 (sub ! 1 refl (whole !))))) (from ! (stop !)) (init ! 22 refl (tt, record { fits = (room-fences .0) })) $
         move ! (4 ∷ 5 ∷ []) $
-        -- steps::column::enter_load
+        -- columns::column::enter_load
         calls-shr ! fm u8 Entry-T.the-row (plain (λ _. usize) ∷ plain (λ _. usize) ∷ plain (λ _. u32) ∷ plain (λ _. u32) ∷ plain (λ _. u32) ∷ plain (λ _. u32) ∷ []) (yes, (yes, (yes, (yes, (yes, (yes, tt)))))) (enter-load-F.clauses 𝓤 H A mem run) known-enter-load b₂ o₂ γ₂ column (length column) refl
         (λ κs. (length words, (length fences, (rows, (values, (threshold, (spacing, tt))))))) (λ κs. (vint w64 (length words) ∷ [], (vint w64 (length fences) ∷ [], (vint w32 rows ∷ [], (vint w32 values ∷ [], (vint w32 threshold ∷ [], (vint w32 spacing ∷ [], tt))))))) (λ κs. owns-make 𝓤 H A (usize ∷ usize ∷ u32 ∷ u32 ∷ u32 ∷ u32 ∷ []) (Ises (usize ∷ usize ∷ u32 ∷ u32 ∷ u32 ∷ u32 ∷ [])) (uint-makes 𝓤 H A W w64, (uint-makes 𝓤 H A W w64, (uint-makes 𝓤 H A W w32, (uint-makes 𝓤 H A W w32, (uint-makes 𝓤 H A W w32, (uint-makes 𝓤 H A W w32, tt)))))) (length words, (length fences, (rows, (values, (threshold, (spacing, tt)))))) (vint w64 (length words) ∷ [], (vint w64 (length fences) ∷ [], (vint w32 rows ∷ [], (vint w32 values ∷ [], (vint w32 threshold ∷ [], (vint w32 spacing ∷ [], tt)))))) ((refl, (room-words .0)), ((refl, (room-fences .0)), ((refl, fit-rows), ((refl, fit-values), ((refl, fit-threshold), ((refl, fit-spacing), tt))))))) (λ κs δ₀. tt) (λ κs δ₀. id⊢ 𝓤 _)
         (λ r1. r1 ≡ enteredLoad (length words) (length fences) rows values threshold spacing column) (λ κs δ₀ r1 ws. id⊢ 𝓤 _) (λ κs δ₀. (and-then ! (load ! (from ! (stop !)) (look ! 42 refl)) (and-then ! (load ! (from ! (stop !)) (look ! 24 refl)) (and-then ! (load ! (from ! (stop !)) (look ! 22 refl)) (and-then ! (load ! (from ! (stop !)) (look ! 40 refl)) (and-then ! (load ! (from ! (stop !)) (look ! 38 refl)) (and-then ! (load ! (from ! (stop !)) (look ! 36 refl)) (and-then ! (load ! (from ! (stop !)) (look ! 34 refl)) (no-more !)))))))))
@@ -205,12 +205,12 @@ module _ {M : Type 1} (𝓤 : URA M) (H : Heap 𝓤) (A : Atoms 𝓤) (W : Given
         ])))))))))))))))))))))))
 
 module _ {M : Type 1} (𝓤 : URA M) (H : Heap 𝓤) (A : Atoms 𝓤) (W : Given 𝓤 H A) (mem : Memory → SProp 𝓤) (run : Routine → Fun 𝓤) where
-  load-walks : (𝓣 : Tables 𝓤 H) → Triple 𝓤 (𝓣 .C #steps·enter-load) (contractOf 𝓤 H A enter-load-F.ended (enter-load-F.clauses 𝓤 H A mem run)) → Triple 𝓤 (𝓣 .C #steps·header-for) (contractOf 𝓤 H A header-for-F.ended (header-for-F.clauses 𝓤 H A mem run)) → Triple 𝓤 (𝓣 .C #index·load-values) (contractOf 𝓤 H A load-values-F.ended (load-values-F.clauses 𝓤 H A mem run)) → Triple 𝓤 (𝓣 .C #steps·done) (contractOf 𝓤 H A done-F.ended (done-F.clauses 𝓤 H A mem run)) → Triple 𝓤 (𝓣 .C #steps·no-header) (contractOf 𝓤 H A no-header-F.ended (no-header-F.clauses 𝓤 H A mem run)) → Triple 𝓤 (𝓣 .C #steps·refuse) (contractOf 𝓤 H A refuse-F.ended (refuse-F.clauses 𝓤 H A mem run)) → Walks 𝓤 H A load-F.ended stayed (WpFn 𝓤 H (𝓣 .C) (𝓣 .Λ) code.function) (load-F.clauses 𝓤 H A mem run)
+  load-walks : (𝓣 : Tables 𝓤 H) → Triple 𝓤 (𝓣 .C #columns·enter-load) (contractOf 𝓤 H A enter-load-F.ended (enter-load-F.clauses 𝓤 H A mem run)) → Triple 𝓤 (𝓣 .C #steps·header-for) (contractOf 𝓤 H A header-for-F.ended (header-for-F.clauses 𝓤 H A mem run)) → Triple 𝓤 (𝓣 .C #index·load-values) (contractOf 𝓤 H A load-values-F.ended (load-values-F.clauses 𝓤 H A mem run)) → Triple 𝓤 (𝓣 .C #steps·done) (contractOf 𝓤 H A done-F.ended (done-F.clauses 𝓤 H A mem run)) → Triple 𝓤 (𝓣 .C #steps·no-header) (contractOf 𝓤 H A no-header-F.ended (no-header-F.clauses 𝓤 H A mem run)) → Triple 𝓤 (𝓣 .C #steps·refuse) (contractOf 𝓤 H A refuse-F.ended (refuse-F.clauses 𝓤 H A mem run)) → Walks 𝓤 H A load-F.ended stayed (WpFn 𝓤 H (𝓣 .C) (𝓣 .Λ) code.function) (load-F.clauses 𝓤 H A mem run)
   load-walks 𝓣 known-enter-load known-header-for known-load-values known-done known-no-header known-refuse =
       walked 𝓤 H A load-F.ended stayed (load-F.clauses 𝓤 H A mem run) (WpFn 𝓤 H (𝓣 .C) (𝓣 .Λ) code.function) (λ κs. (slice-vals, (slice-vals, (slice-vals, (uint-vals w32, (uint-vals w32, (uint-vals w32, (uint-vals w32, tt)))))))) (λ κs. (mut-slice-tells (named 0) (κs .0) u32, (mut-slice-tells (named 1) (κs .1 .0) Fence-T.the-row, (shr-slice-tells (named 2) (κs .1 .1 .0) u8, (uint-tells w32, (uint-tells w32, (uint-tells w32, (uint-tells w32, tt))))))))
       (λ κs qs bounds a g are. via 𝓤 _ (fst∗ 𝓤 _ (emp 𝓤)) (walk 𝓤 H A W mem run (κs .0) (κs .1 .0) (κs .1 .1 .0) (qs .0) (qs .1 .0) (qs .1 .1 .0) (a .0 .ptr .0) (a .0 .ptr .1) (a .0 .name) (a .0 .now) (a .1 .0 .ptr .0) (a .1 .0 .ptr .1) (a .1 .0 .name) (a .1 .0 .now) (a .1 .1 .0 .ptr .0) (a .1 .1 .0 .ptr .1) (a .1 .1 .0 .name) (a .1 .1 .0 .now) (a .1 .1 .1 .0) (a .1 .1 .1 .1 .0) (a .1 .1 .1 .1 .1 .0) (a .1 .1 .1 .1 .1 .1 .0) 𝓣 (fmOf 𝓤 H (W .laws) 𝓣) known-enter-load known-header-for known-load-values known-done known-no-header known-refuse (are .0 .0 .1) (are .1 .0 .0 .1) (are .1 .1 .0 .0 .1) (are .1 .1 .1 .0 .1) (are .1 .1 .1 .1 .0 .1) (are .1 .1 .1 .1 .1 .0 .1) (are .1 .1 .1 .1 .1 .1 .0 .1)))
 
-load-meets : {M : Type 1} (𝓤 : URA M) (H : Heap 𝓤) (A : Atoms 𝓤) (W : Given 𝓤 H A) (mem : Memory → SProp 𝓤) (run : Routine → Fun 𝓤) (𝓣 : Tables 𝓤 H) → Triple 𝓤 (𝓣 .C #steps·enter-load) (contractOf 𝓤 H A enter-load-F.ended (enter-load-F.clauses 𝓤 H A mem run)) → Triple 𝓤 (𝓣 .C #steps·header-for) (contractOf 𝓤 H A header-for-F.ended (header-for-F.clauses 𝓤 H A mem run)) → Triple 𝓤 (𝓣 .C #index·load-values) (contractOf 𝓤 H A load-values-F.ended (load-values-F.clauses 𝓤 H A mem run)) → Triple 𝓤 (𝓣 .C #steps·done) (contractOf 𝓤 H A done-F.ended (done-F.clauses 𝓤 H A mem run)) → Triple 𝓤 (𝓣 .C #steps·no-header) (contractOf 𝓤 H A no-header-F.ended (no-header-F.clauses 𝓤 H A mem run)) → Triple 𝓤 (𝓣 .C #steps·refuse) (contractOf 𝓤 H A refuse-F.ended (refuse-F.clauses 𝓤 H A mem run)) → Meets 𝓤 H A load-F.signature (WpFn 𝓤 H (𝓣 .C) (𝓣 .Λ) code.function) (load-F.spec 𝓤 H A mem run)
+load-meets : {M : Type 1} (𝓤 : URA M) (H : Heap 𝓤) (A : Atoms 𝓤) (W : Given 𝓤 H A) (mem : Memory → SProp 𝓤) (run : Routine → Fun 𝓤) (𝓣 : Tables 𝓤 H) → Triple 𝓤 (𝓣 .C #columns·enter-load) (contractOf 𝓤 H A enter-load-F.ended (enter-load-F.clauses 𝓤 H A mem run)) → Triple 𝓤 (𝓣 .C #steps·header-for) (contractOf 𝓤 H A header-for-F.ended (header-for-F.clauses 𝓤 H A mem run)) → Triple 𝓤 (𝓣 .C #index·load-values) (contractOf 𝓤 H A load-values-F.ended (load-values-F.clauses 𝓤 H A mem run)) → Triple 𝓤 (𝓣 .C #steps·done) (contractOf 𝓤 H A done-F.ended (done-F.clauses 𝓤 H A mem run)) → Triple 𝓤 (𝓣 .C #steps·no-header) (contractOf 𝓤 H A no-header-F.ended (no-header-F.clauses 𝓤 H A mem run)) → Triple 𝓤 (𝓣 .C #steps·refuse) (contractOf 𝓤 H A refuse-F.ended (refuse-F.clauses 𝓤 H A mem run)) → Meets 𝓤 H A load-F.signature (WpFn 𝓤 H (𝓣 .C) (𝓣 .Λ) code.function) (load-F.spec 𝓤 H A mem run)
 load-meets 𝓤 H A W mem run 𝓣 known-enter-load known-header-for known-load-values known-done known-no-header known-refuse =
     walk-meets 𝓤 H A load-F.ended stayed W (goes-slice 𝓤 H A W 3 0 tt (plain (λ _. u32)), (goes-slice 𝓤 H A W 3 1 tt (plain (λ _. Fence-T.the-row)), (goes-dropped 𝓤 H A W 3 (shrSliceOf (2 ∷ []) tt (plain (λ _. u8))) yes (λ κs x f. refl), (goes-dropped 𝓤 H A W 3 (plain (λ _. u32)) yes (λ κs x f. refl), (goes-dropped 𝓤 H A W 3 (plain (λ _. u32)) yes (λ κs x f. refl), (goes-dropped 𝓤 H A W 3 (plain (λ _. u32)) yes (λ κs x f. refl), (goes-dropped 𝓤 H A W 3 (plain (λ _. u32)) yes (λ κs x f. refl), tt)))))))
     (load-F.clauses 𝓤 H A mem run) (WpFn 𝓤 H (𝓣 .C) (𝓣 .Λ) code.function) (WpFn-mono 𝓤 H (W .laws) 𝓣 code.function) (load-walks 𝓤 H A W mem run 𝓣 known-enter-load known-header-for known-load-values known-done known-no-header known-refuse)
@@ -221,7 +221,7 @@ load-spec 𝓤 H 𝓜 𝓖 𝓡 =
     entered 𝓤 H (tripleOf 𝓤 H (𝓖 .A) load-F.signature (load-F.spec 𝓤 H (𝓖 .A) (𝓜 .mem) (𝓡 .run)))
     (tables 𝓤 H 𝓜 𝓡 code.env .C) (tables 𝓤 H 𝓜 𝓡 code.env .Λ) #index·load code.function (code.unfolded 𝓤 H 𝓜 𝓡)
     (load-meets 𝓤 H (𝓖 .A) (givenOf 𝓤 H 𝓜 𝓖) (𝓜 .mem) (𝓡 .run) (tablesOf 𝓤 H 𝓜 (tables 𝓤 H 𝓜 𝓡 code.env))
-    (cited 𝓤 H (tripleOf 𝓤 H (𝓖 .A) enter-load-F.signature (enter-load-F.spec 𝓤 H (𝓖 .A) (𝓜 .mem) (𝓡 .run))) 𝓜 𝓡 code.env #steps·enter-load enter-load-def.routine code.calls-steps·column·enter-load (enter-load-thm.met 𝓤 H 𝓜 𝓖 𝓡))
+    (cited 𝓤 H (tripleOf 𝓤 H (𝓖 .A) enter-load-F.signature (enter-load-F.spec 𝓤 H (𝓖 .A) (𝓜 .mem) (𝓡 .run))) 𝓜 𝓡 code.env #columns·enter-load enter-load-def.routine code.calls-columns·column·enter-load (enter-load-thm.met 𝓤 H 𝓜 𝓖 𝓡))
     (cited 𝓤 H (tripleOf 𝓤 H (𝓖 .A) header-for-F.signature (header-for-F.spec 𝓤 H (𝓖 .A) (𝓜 .mem) (𝓡 .run))) 𝓜 𝓡 code.env #steps·header-for header-for-def.routine code.calls-steps·header·header-for (header-for-thm.met 𝓤 H 𝓜 𝓖 𝓡))
     (cited 𝓤 H (tripleOf 𝓤 H (𝓖 .A) load-values-F.signature (load-values-F.spec 𝓤 H (𝓖 .A) (𝓜 .mem) (𝓡 .run))) 𝓜 𝓡 code.env #index·load-values load-values-def.routine code.calls-index·loading·load-values (load-values-thm.met 𝓤 H 𝓜 𝓖 𝓡))
     (cited 𝓤 H (tripleOf 𝓤 H (𝓖 .A) done-F.signature (done-F.spec 𝓤 H (𝓖 .A) (𝓜 .mem) (𝓡 .run))) 𝓜 𝓡 code.env #steps·done done-def.routine code.calls-steps·header·done (done-thm.met 𝓤 H 𝓜 𝓖 𝓡))

@@ -6,7 +6,7 @@ use native.Mathlib.Omega.{arith}
 use lib.ListN.{length, length-replicate}
 use borrow.Author.Needs.{needs}
 use Rattle.words.specs.Words.{uniform, encode}
-use Rattle.words.proofs.Table.{mask-at}
+use Rattle.groups.proofs.Table.{mask-at}
 use Rattle.words.proofs.Writing.{Writing, step-fits, step-on, last-fits}
 use Rattle.lists.specs.OneRow.{oneRow}
 use Rattle.lists.proofs.OneRow.{few-oneRow, literal-on, packs}

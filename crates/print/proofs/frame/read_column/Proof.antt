@@ -5,7 +5,7 @@ use native.Mathlib.Omega.{arith}
 use lib.ListN.{length, length-set}
 use lib.Seq.{paste, paste-zero}
 use borrow.Author.Needs.{needs}
-use Rattle.words.proofs.Sets.{copies, copied}
+use Rattle.groups.proofs.Sets.{copies, copied}
 use Rattle.print.specs.Frame.{columnIn}
 use Rattle.print.proofs.Digits.{length-column, byte-at}
 use Rattle.print.proofs.frame.read_column.Statement.{statement}

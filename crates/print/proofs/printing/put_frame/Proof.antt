@@ -5,7 +5,7 @@ use Prim.Native.Nat.{ℕ, _≤_}
 use native.Mathlib.Omega.{arith}
 use lib.ListN.{length, take, drop, replicate, length-drop, length-append}
 use lib.Seq.{length-take-le}
-use Rattle.words.proofs.Sets.{front}
+use Rattle.groups.proofs.Sets.{front}
 use Rattle.print.specs.Frame.{columnIn}
 use Rattle.print.proofs.Digits.{frame-length, rest-of-line}
 use Rattle.print.proofs.Lines.{frame-printed}

@@ -5,10 +5,10 @@ use Prim.Native.Nat.{ℕ, _*_}
 use native.Mathlib.Omega.{arith}
 use borrow.Author.Needs.{needs}
 use borrow.Author.Tests.{not-true, not-false}
-use Rattle.values.specs.Audit.{soundLists}
+use Rattle.audits.specs.Audit.{soundLists}
 use Rattle.blocks.specs.Block.{part}
 use Rattle.blocks.specs.Shape.{blockSize}
-use Rattle.values.proofs.SoundLists.{sound-parts}
+use Rattle.audits.proofs.SoundLists.{sound-parts}
 use Rattle.steps.specs.Alter.{blockIn}
 use Rattle.steps.proofs.Altering.{inside}
 use Rattle.steps.proofs.audit.audit_lists.Statement.{statement}

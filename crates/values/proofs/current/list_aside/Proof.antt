@@ -7,7 +7,7 @@ use lib.ListN.{length, take, drop, replicate, length-take}
 use Rattle.words.specs.Words.{encode}
 use Rattle.blocks.specs.Shape.{blockSize}
 use Rattle.blocks.specs.Block.{part, current}
-use Rattle.words.proofs.Sets.{front}
+use Rattle.groups.proofs.Sets.{front}
 use Rattle.values.proofs.current.Exits.{small, done}
 use borrow.Author.Needs.{needs}
 use Rattle.values.proofs.current.list_aside.Statement.{statement}

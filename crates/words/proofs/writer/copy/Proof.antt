@@ -4,7 +4,7 @@ use Prim.Native.Nat.{_-_, _≤_}
 use native.Mathlib.Omega.{arith}
 use lib.ListN.{length, length-set}
 use lib.Seq.{paste, paste-zero}
-use Rattle.words.proofs.Sets.{copies, copied}
+use Rattle.groups.proofs.Sets.{copies, copied}
 use Rattle.words.proofs.writer.copy.Statement.{statement}
 use Rattle.words.proofs.writer.copy.Tie as tie
 

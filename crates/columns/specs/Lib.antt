@@ -1,0 +1,3 @@
+pub mod Column
+pub mod Listing
+pub mod Spread

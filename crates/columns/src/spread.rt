@@ -1,0 +1,78 @@
+// The groups of all values in one pass over a column: 31 rows are gathered aside, a group for each value,
+// and each group is put into its value's block, where the value's list will stand.
+ghost use mathlib.Core.Path.{_≡_};
+ghost use Prim.Native.Nat.{ℕ, _+_, _*_, _^_, _<_, _≤_};
+ghost use lib.ListN.{length, getD, set};
+ghost use Rattle.groups.specs.Rows.{groupOf};
+ghost use Rattle.columns.specs.Column.{rowsWith};
+ghost use Rattle.columns.specs.Spread.{Blocks, Placed, Spread};
+use steps::entry::Plan;
+use groups::rows::smaller;
+
+// The most values of an index.
+const VALUE_LIMIT: usize = 64;
+
+// Adds a row's mask to the group of its value; a byte that is no value has no group.
+fn add_row(groups: &mut [u32], byte: u8, mask: u32)
+    requires { ⌜ (byte < length (now groups) → getD (now groups) byte 0 + mask < 2 ^ 32) ⌝ }
+    ensures { λ _. ⌜ now (groups .exit) ≡ set (now (groups .entry)) byte (getD (now (groups .entry)) byte 0 + mask) ⌝ }
+{
+    let value = byte as usize;
+    if value < groups.len() {
+        groups[value] += mask;
+    }
+}
+
+// Gathers at most 31 rows into groups that are all zero: each value's group has the rows that hold it.
+fn gather_groups(rows: &[u8], groups: &mut [u32])
+    requires { ⌜ (length (now rows) ≤ 31) × ((value : ℕ) → getD (now groups) value 0 ≡ 0) ⌝ }
+    ensures { λ _. ⌜ ((value : ℕ) → value < length (now (groups .entry)) → getD (now (groups .exit)) value 0 ≡ groupOf 31 (rowsWith value (now (rows .entry)))) ⌝ }
+{
+    let mut mask: u32 = 0x80000000;
+    let mut i: usize = 0;
+    while i < rows.len() {
+        mask = mask / 2;
+        add_row(groups, rows[i], mask);
+        i += 1;
+    }
+}
+
+// Puts the group of each value into its block.
+fn put_groups(words: &mut [u32], groups: &[u32], values: usize, block: usize, place: usize)
+    requires { ⌜ (values ≤ length (now groups)) × (place < block) × (values * block ≤ length (now words)) ⌝ }
+    ensures { λ _. ⌜ Placed values block place (λ value. getD (now (groups .entry)) value 0) (now (words .entry)) (now (words .exit)) ⌝ }
+{
+    let mut at = place;
+    let mut value: usize = 0;
+    while value < values {
+        words[at] = groups[value];
+        at += block;
+        value += 1;
+    }
+}
+
+// Puts the groups of at most 31 rows into the blocks.
+fn spread_group(words: &mut [u32], rows: &[u8], values: usize, block: usize, place: usize)
+    requires { ⌜ (length (now rows) ≤ 31) × (values ≤ 64) × (place < block) × (values * block ≤ length (now words)) ⌝ }
+    ensures { λ _. ⌜ Placed values block place (λ value. groupOf 31 (rowsWith value (now (rows .entry)))) (now (words .entry)) (now (words .exit)) ⌝ }
+{
+    let mut groups = [0u32; VALUE_LIMIT];
+    gather_groups(rows, &mut groups);
+    put_groups(words, &groups, values, block, place);
+}
+
+// Puts all groups of a column into the blocks, from the first word of each V on.
+pub fn spread(words: &mut [u32], column: &[u8], plan: Plan, values: u32)
+    requires { ⌜ Blocks plan values (length (now words)) × (values ≤ 64) × (length (now column) ≤ plan .shape .rows) ⌝ }
+    ensures { λ _. ⌜ Spread (plan .block) values (now (column .entry)) (now (words .entry)) (now (words .exit)) ⌝ }
+{
+    let block = plan.block;
+    let mut place: usize = 2;
+    let mut at: usize = 0;
+    while at < column.len() {
+        let end = smaller(at + 31, column.len());
+        spread_group(words, &column[at..end], values as usize, block, place);
+        place += 1;
+        at = end;
+    }
+}

@@ -1,0 +1,244 @@
+// The rows of some groups get a value as their byte, as Dump keeps them: a byte is 255 while no value has
+// its row.
+ghost use mathlib.Core.Path.{_≡_};
+ghost use mathlib.Core.Bool.{true, cond};
+ghost use Prim.Native.Nat.{min, _+_, _-_, _/_, _%_, _^_, _<_, _≤_};
+ghost use lib.Dec.{eqb};
+ghost use lib.ListN.{length};
+ghost use Rattle.groups.specs.Rows.{groupsFor};
+ghost use Rattle.words.specs.Words.{allOnes};
+ghost use Rattle.words.specs.Writer.{Alone};
+ghost use Rattle.dumps.specs.Dump.{eachRow, everyRow, freeInGroup, markedInGroup, groupsHold, groupsMarked, alike, octetsOf, underMasks};
+use groups::rows::smaller;
+use words::word::ALL_ONES;
+
+// Gives the value to each row of a group whose bit is 1, from one such row to the next; `rows` are the
+// bytes of the group's first rows. False if such a row is in another value already: the bytes are then
+// good for nothing.
+fn mark_few(rows: &mut [u8], group: u32, value: u8) -> bool
+    requires { ⌜ (length (now rows) ≤ 31) × (group < 0x80000000) ⌝ }
+    ensures { λ r. ⌜ (r ≡ everyRow (freeInGroup group) 0 (now (rows .entry)))
+        × (r ≡ true → now (rows .exit) ≡ eachRow (markedInGroup group value) 0 (now (rows .entry))) ⌝ }
+{
+    let mut rest = group;
+    while rest != 0 {
+        let ahead = u32::leading_zeros(rest) - 1;
+        let row = ahead as usize;
+        if rows.len() <= row {
+            return true;
+        }
+        if rows[row] != 255 {
+            return false;
+        }
+        rows[row] = value;
+        rest -= 0x40000000 >> ahead;
+    }
+    true
+}
+
+fn least_of(x: u8, y: u8) -> u8
+    ensures { λ r. ⌜ r ≡ min x y ⌝ }
+{
+    if x < y { x } else { y }
+}
+
+// A group's 31 rows and a 0 behind them, eight a byte; or masks of such rows.
+pub struct Octets {
+    pub first: u8,
+    pub second: u8,
+    pub third: u8,
+    pub fourth: u8,
+}
+
+// The masks of the eight rows of an octet between zeros: from place 24 - 8 x k on, entry i is the mask of
+// row i in octet k, and 0 if the row is in another octet.
+const WINDOW: [u8; 56] = [
+    0,
+    0,
+    0,
+    0,
+    0,
+    0,
+    0,
+    0,
+    0,
+    0,
+    0,
+    0,
+    0,
+    0,
+    0,
+    0,
+    0,
+    0,
+    0,
+    0,
+    0,
+    0,
+    0,
+    0,
+    0x80,
+    0x40,
+    0x20,
+    0x10,
+    0x08,
+    0x04,
+    0x02,
+    0x01,
+    0,
+    0,
+    0,
+    0,
+    0,
+    0,
+    0,
+    0,
+    0,
+    0,
+    0,
+    0,
+    0,
+    0,
+    0,
+    0,
+    0,
+    0,
+    0,
+    0,
+    0,
+    0,
+    0,
+    0,
+];
+
+// Eight bits, the lowest of them at place `shift`.
+fn octet(bits: u32, shift: u32) -> u8
+    requires { ⌜ shift < 32 ⌝ }
+    ensures { λ r. ⌜ r ≡ bits / 2 ^ shift % 256 ⌝ }
+{
+    ((bits >> shift) & 0xFF) as u8
+}
+
+fn octets_of(group: u32) -> Octets
+    requires { ⌜ group < 0x80000000 ⌝ }
+    ensures { λ r. ⌜ r ≡ octetsOf group ⌝ }
+{
+    let bits = group * 2;
+    Octets {
+        first: octet(bits, 24),
+        second: octet(bits, 16),
+        third: octet(bits, 8),
+        fourth: octet(bits, 0),
+    }
+}
+
+// The second of two bytes where an octet has a bit of its mask, and else the first.
+fn by_bit(octets: Octets, masks: Octets, clear: u8, set: u8) -> u8
+    ensures { λ r. ⌜ r ≡ cond (eqb (underMasks octets masks) 0) clear set ⌝ }
+{
+    let first = octets.first & masks.first;
+    let second = octets.second & masks.second;
+    let third = octets.third & masks.third;
+    let fourth = octets.fourth & masks.fourth;
+    if first | second | third | fourth == 0 {
+        clear
+    } else {
+        set
+    }
+}
+
+// Gives the value to each row of a whole group whose bit is 1; `rows` has the row behind the group too,
+// which stays as it is. All 32 are looked at, in bytes alone: the loop is vectorised, sixteen at a time.
+fn mark_many(rows: &mut [u8], group: u32, value: u8) -> bool
+    requires { ⌜ (length (now rows) ≡ 32) × (group < 0x80000000) ⌝ }
+    ensures { λ r. ⌜ (r ≡ groupsHold (alike group) 0 1 31 (now (rows .entry)))
+        × (r ≡ true → now (rows .exit) ≡ groupsMarked (alike group) 0 1 31 value (now (rows .entry))) ⌝ }
+{
+    let octets = octets_of(group);
+    let window = WINDOW;
+    let mut least: u8 = 255;
+    let mut row: usize = 0;
+    while row < 32 {
+        let masks = Octets {
+            first: window[row + 24],
+            second: window[row + 16],
+            third: window[row + 8],
+            fourth: window[row],
+        };
+        let byte = rows[row];
+        least = least_of(least, by_bit(octets, masks, 255, byte));
+        rows[row] = by_bit(octets, masks, byte, value);
+        row += 1;
+    }
+    least == 255
+}
+
+// Gives the value to all rows; false if one of them is in another value already. It looks at all of
+// them: without an early end the loop is vectorised.
+fn mark_all(rows: &mut [u8], value: u8) -> bool
+    ensures { λ r. ⌜ (r ≡ everyRow (freeInGroup allOnes) 0 (now (rows .entry)))
+        × (r ≡ true → now (rows .exit) ≡ eachRow (markedInGroup allOnes value) 0 (now (rows .entry))) ⌝ }
+{
+    let mut least: u8 = 255;
+    let mut row: usize = 0;
+    while row < rows.len() {
+        least = least_of(least, rows[row]);
+        rows[row] = value;
+        row += 1;
+    }
+    least == 255
+}
+
+// Gives the value to the rows of groups that all have the same bits; only uniform groups are more than
+// one.
+fn mark_alike(rows: &mut [u8], bits: u32, value: u8) -> bool
+    requires { ⌜ (bits < 0x80000000) × ((bits ≡ 0 → ⊥) → (bits ≡ allOnes → ⊥) → length (now rows) ≤ 31) ⌝ }
+    ensures { λ r. ⌜ (r ≡ everyRow (freeInGroup bits) 0 (now (rows .entry)))
+        × (r ≡ true → now (rows .exit) ≡ eachRow (markedInGroup bits value) 0 (now (rows .entry))) ⌝ }
+{
+    if bits == 0 {
+        return true;
+    }
+    if bits == ALL_ONES {
+        return mark_all(rows, value);
+    }
+    mark_few(rows, bits, value)
+}
+
+// Whether a group is marked by `mark_many`: more than one of its bits is 1, some are 0, all of its rows
+// are below `issued`, and there is a row behind them.
+fn is_many(bits: u32, start: usize, issued: usize, length: usize) -> bool
+    requires { ⌜ start < 0x8000000000 ⌝ }
+    ensures { λ r. ⌜ (r ≡ true → (bits ≡ 0 → ⊥) × (bits ≡ allOnes → ⊥) × (start + 31 ≤ issued) × (start + 32 ≤ length)) ⌝ }
+{
+    if bits == 0 {
+        return false;
+    }
+    if bits == ALL_ONES {
+        return false;
+    }
+    if issued < start + 31 {
+        return false;
+    }
+    if length < start + 32 {
+        return false;
+    }
+    bits & (bits - 1) != 0
+}
+
+// Gives the value to the rows below `issued` of the groups `group` up to `end`, which all have the same
+// bits; `rows` has a byte for each row. False if such a row is in another value already: the bytes are
+// then good for nothing.
+pub fn mark_groups(rows: &mut [u8], bits: u32, group: u32, end: u32, issued: u32, value: u8) -> bool
+    requires { ⌜ (bits < 0x80000000) × (group < end) × Alone bits (end - group) × (end ≤ groupsFor issued) × (issued ≤ length (now rows)) ⌝ }
+    ensures { λ r. ⌜ (r ≡ groupsHold (alike bits) group end issued (now (rows .entry)))
+        × (r ≡ true → now (rows .exit) ≡ groupsMarked (alike bits) group end issued value (now (rows .entry))) ⌝ }
+{
+    let start = group as usize * 31;
+    if is_many(bits, start, issued as usize, rows.len()) {
+        let behind = start + 32;
+        return mark_many(&mut rows[start..behind], bits, value);
+    }
+    let stop = smaller(end as usize * 31, issued as usize);
+    mark_alike(&mut rows[start..stop], bits, value)
+}

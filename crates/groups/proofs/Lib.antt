@@ -1,0 +1,10 @@
+pub mod Bits
+pub mod Gather
+pub mod Group
+pub mod Groups
+pub mod Parts
+pub mod RowsBack
+pub mod Sets
+pub mod Table
+pub mod Tail
+pub mod Zeros
