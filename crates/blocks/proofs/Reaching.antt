@@ -10,9 +10,9 @@ use borrow.Author.Tests.{le-leb, lt-ltb}
 use Rattle.words.specs.Words.{span, decode}
 use Rattle.words.proofs.Forms.{runAt}
 use Rattle.lists.specs.Combine.{exclusive, Covers}
-use Rattle.lists.specs.Walk.{walkTo}
+use Rattle.reads.specs.Walk.{walkTo}
 use Rattle.lists.proofs.Combining.{getD-combined}
-use Rattle.lists.proofs.Walks.{Finds, found, found-from, finds, finds-from}
+use Rattle.reads.proofs.Walks.{Finds, found, found-from, finds, finds-from}
 use Rattle.blocks.specs.Shape.{Limits, updateRoom}
 use Rattle.blocks.specs.Block.{valueLength, updateLength, valueWords, updateWords, valueList, updateList, current}
 use Rattle.blocks.specs.Fences.{fenceAt}

@@ -10,13 +10,13 @@ use Rattle.groups.specs.Rows.{rowAt}
 use Rattle.words.specs.Words.{runOf, groupIn, decode}
 use Rattle.words.proofs.Round.{decode-groups}
 use Rattle.lists.specs.Combine.{exclusive, onGroup}
-use Rattle.lists.specs.Walk.{walkTo}
-use Rattle.lists.specs.declared.walk.Walk.{Walk}
-use Rattle.lists.specs.declared.walk.Walk.the-variants.{Covered, Damaged}
+use Rattle.reads.specs.Walk.{walkTo}
+use Rattle.reads.specs.declared.walk.Walk.{Walk}
+use Rattle.reads.specs.declared.walk.Walk.the-variants.{Covered, Damaged}
 use Rattle.lists.proofs.Combining.{getD-combined}
 use Rattle.lists.proofs.Operations.{exclusive-bits, onGroup-lt}
 use Rattle.lists.proofs.Covering.{length-rest}
-use Rattle.lists.proofs.Walks.{found, found-group, found-from}
+use Rattle.reads.proofs.Walks.{found, found-group, found-from}
 use Rattle.blocks.specs.Shape.{updateRoom}
 use Rattle.blocks.specs.Block.{valueLength, updateLength, valueList, updateList, current}
 use Rattle.blocks.specs.Read.{groupRead, readValue, readUpdate, joined, readGroup}

@@ -6,9 +6,9 @@ use lib.Dec.{leb, ltb}
 use lib.ListN.{drop}
 use Rattle.words.specs.Words.{runOf, groupIn}
 use Rattle.lists.specs.Combine.{exclusive, onGroup}
-use Rattle.lists.specs.Walk.{walkTo}
-use Rattle.lists.specs.declared.walk.Walk.{Walk}
-use Rattle.lists.specs.declared.walk.Walk.the-variants.{Covered, Damaged}
+use Rattle.reads.specs.Walk.{walkTo}
+use Rattle.reads.specs.declared.walk.Walk.{Walk}
+use Rattle.reads.specs.declared.walk.Walk.the-variants.{Covered, Damaged}
 use Rattle.blocks.specs.Shape.{updateRoom}
 use Rattle.blocks.specs.Block.{valueLength, updateLength, valueList, updateList}
 use Rattle.blocks.specs.declared.shape.Shape.{Shape}

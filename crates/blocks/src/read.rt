@@ -6,11 +6,11 @@ ghost use lib.ListN.{length};
 ghost use Rattle.blocks.specs.Shape.{Limits, blockSize};
 ghost use Rattle.blocks.specs.Block.{part};
 ghost use Rattle.blocks.specs.Read.{groupRead, readValue, readUpdate, readGroup};
-ghost use Rattle.lists.specs.Walk.{walkTo};
+ghost use Rattle.reads.specs.Walk.{walkTo};
 use crate::shape::Shape;
 use crate::shape::update_room;
-use lists::walk::Walk;
-use lists::walk::walk_to;
+use reads::walk::Walk;
+use reads::walk::walk_to;
 use words::word::group_in;
 
 // A group of 31 rows and the words opened to find it, or damage.

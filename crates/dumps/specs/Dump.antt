@@ -4,7 +4,7 @@ use mathlib.Core.List.{List, [], _∷_}
 use Prim.Native.Nat.{ℕ, suc, _*_, _-_, _/_, _%_, _^_}
 use lib.Bits.{bitAnd, bitOr}
 use lib.Dec.{leb, ltb, eqb}
-use Rattle.lists.specs.Walk.{walkTo}
+use Rattle.reads.specs.Walk.{walkTo}
 use Rattle.blocks.specs.Read.{groupRead, joined, readGroup}
 use Rattle.blocks.specs.declared.shape.Shape.{Shape}
 use Rattle.blocks.specs.declared.read.Reading.{Reading}

@@ -6,7 +6,7 @@ ghost use Prim.Native.Nat.{_<_, _≤_};
 ghost use lib.ListN.{length, drop};
 ghost use Rattle.answers.specs.Outcome.{Gives};
 ghost use Rattle.groups.specs.Rows.{rowLimit};
-ghost use Rattle.steps.specs.Alter.{Suits, blockIn};
+ghost use Rattle.steps.specs.Plans.{Suits, blockIn};
 ghost use Rattle.dumps.specs.Dumping.{fencesFor, fenceHolds, fenceMarked, rowsGiven};
 use steps::entry::Plan;
 use steps::header::Fence;

@@ -11,9 +11,9 @@ ghost use Rattle.dumps.specs.Dump.{groupsHold, groupsMarked, inLists, sp
 use crate::marking::mark_groups;
 use blocks::shape::Shape;
 use blocks::shape::update_room;
-use lists::walk::Walk;
-use lists::walk::walk_on;
-use lists::walk::walk_to;
+use reads::walk::Walk;
+use reads::walk::walk_on;
+use reads::walk::walk_to;
 use words::word::ALL_ONES;
 use words::word::group_in;
 

@@ -5,7 +5,7 @@ use Rattle.words.specs.Words.{runOf, addGroup, packed, canonical}
 use Rattle.packs.specs.Calls.{packOutcome}
 use Rattle.lists.specs.Combine.{onGroup}
 use Rattle.lists.specs.OneRow.{turnedOver}
-use Rattle.lists.specs.Walk.{walkTo}
+use Rattle.reads.specs.Walk.{walkTo}
 use Rattle.blocks.specs.Shape.{fenceCount}
 use Rattle.blocks.specs.Block.{part, write, valueWords, updateWords, valueList, updateList, current, padded, withUpdate, blockOf, zeroList}
 use Rattle.blocks.specs.Read.{readValue, readUpdate, readGroup}

@@ -17,7 +17,7 @@ use Rattle.steps.specs.declared.header.Header.{Header}
 use Rattle.steps.specs.declared.row.Row.{Row}
 use Rattle.steps.specs.declared.row.State.{State}
 use Rattle.steps.specs.declared.row.State.the-variants.{Live, Deleted, Refused}
-use Rattle.steps.proofs.Altering.{either}
+use Rattle.values.proofs.Altering.{either}
 use Rattle.index.proofs.Every.{holds-every}
 use Rattle.steps.proofs.Headers.{within}
 use Rattle.history.proofs.Sound.{sound-lent, sound-whole}

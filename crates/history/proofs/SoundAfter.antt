@@ -8,7 +8,7 @@ use borrow.Author.Tests.{le-leb, eqb-true, eqb-false}
 use Rattle.steps.specs.Memory.{Memory, limits, withinLimits, shapeOf, blockAt, rowsIn}
 use Rattle.index.specs.Soundness.{SoundLists, FencesRight, NoRowInTwo, Sound}
 use Rattle.steps.specs.declared.header.Header.{Header}
-use Rattle.steps.proofs.Altering.{either}
+use Rattle.values.proofs.Altering.{either}
 use Rattle.history.proofs.Changes.{OnlyValue, others-right}
 use Rattle.history.proofs.SoundBlocks.{lists-later}
 

@@ -20,7 +20,7 @@ use Rattle.steps.specs.Memory.{Memory, shapeOf, blockAt, rowsIn}
 use Rattle.index.specs.Soundness.{SoundLists, FencesRight, NoRowInTwo, Sound}
 use Rattle.index.specs.Calls.{withBlock, flippedIn}
 use Rattle.steps.specs.declared.header.Header.{Header}
-use Rattle.steps.proofs.Altering.{either}
+use Rattle.values.proofs.Altering.{either}
 use Rattle.history.proofs.Changes.{block-put, block-only, Replaced, replaced}
 use Rattle.steps.proofs.Headers.{within}
 use Rattle.index.proofs.Holders.{NoHolder}

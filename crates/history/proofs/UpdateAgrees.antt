@@ -16,7 +16,7 @@ use Rattle.steps.specs.Outcomes.{made}
 use Rattle.index.specs.Soundness.{Sound}
 use Rattle.index.specs.Calls.{whole, flippedIn, oldValue, updateAfter}
 use Rattle.steps.specs.declared.header.Header.{Header}
-use Rattle.steps.proofs.Altering.{either}
+use Rattle.values.proofs.Altering.{either}
 use Rattle.history.specs.Calls.{Update, indexOf}
 use Rattle.history.specs.Plain.{Plain, headerOf, withColumn, byteAt, becoming, plainBadValue, plainNoRow, plainGone, plainly}
 use Rattle.history.specs.History.{Agrees, Good}

@@ -14,7 +14,7 @@ use Rattle.steps.specs.Reading.{rowOf, refusedValue, ValuePaper, valuePaper}
 use Rattle.index.specs.Soundness.{Sound}
 use Rattle.index.specs.Calls.{valueOutcome}
 use Rattle.steps.specs.declared.header.Header.{Header}
-use Rattle.steps.proofs.Altering.{either}
+use Rattle.values.proofs.Altering.{either}
 use Rattle.steps.proofs.RowLaws.{row-opened}
 use Rattle.history.specs.Calls.{Value, stated, replied}
 use Rattle.history.specs.Plain.{Plain, headerOf, byteAt, PlainReply, stateOf, plainly}

@@ -14,7 +14,7 @@ use Rattle.dumps.specs.Dump.{eachRow, everyRow}
 use Rattle.dumps.proofs.EachRow.{length-each, getD-each, every-each, each-every}
 use Rattle.steps.specs.Memory.{Memory, blockAt, every}
 use Rattle.steps.specs.Entry.{planOf}
-use Rattle.steps.specs.Alter.{blockIn}
+use Rattle.steps.specs.Plans.{blockIn}
 use Rattle.steps.specs.Reading.{rowOf, isDamaged}
 use Rattle.index.specs.Calls.{byteOf, bytesOf}
 use Rattle.dumps.specs.Dumping.{fencesFor, fenceHolds, fenceMarked, fenceNumber, turnHolds, markedFences, fencesHold, markedValues, valuesHold}

@@ -7,8 +7,9 @@ use lib.ListN.{length}
 use Rattle.blocks.specs.Shape.{fenceCount}
 use Rattle.blocks.specs.Block.{write, valueList}
 use Rattle.values.specs.Change.{mergeDue}
-use Rattle.steps.specs.Alter.{Suits, blockIn, isWhole, mergeWords, flipWords, moveWords}
-use Rattle.steps.specs.Alter.{renewedFences, flipFences, moveFences}
+use Rattle.values.specs.Alter.{isWhole, mergeWords, flipWords, moveWords}
+use Rattle.steps.specs.Plans.{Suits, blockIn}
+use Rattle.values.specs.Alter.{renewedFences, flipFences, moveFences}
 use Rattle.steps.specs.Entry.{planOf}
 use Rattle.steps.specs.Fences.{fencesFrom}
 use Rattle.steps.specs.Memory.{Memory, memoryOf, blockAt}
@@ -16,8 +17,8 @@ use Rattle.index.specs.Calls.{whole, withBlock, renewed, mergedIn, flipp
 use Rattle.steps.specs.declared.header.Header.{Header}
 use Rattle.steps.specs.declared.header.Fence.{Fence}
 use Rattle.steps.specs.declared.entry.Plan.{Plan}
-use Rattle.steps.proofs.Altering.{flippedBlock, merge-put, flip-put, flip-only}
-use Rattle.steps.proofs.alter.Moving.{move-flips}
+use Rattle.values.proofs.Altering.{flippedBlock, merge-put, flip-put, flip-only}
+use Rattle.values.proofs.alter.Moving.{move-flips}
 
 -- fences are made from the value's block alone
 same-fences : (plan : Plan) (words other : List ℕ) (fences : List Fence) (value : ℕ) → blockIn plan words value ≡ blockIn plan other value

@@ -7,7 +7,7 @@ use Rattle.blocks.specs.Shape.{Limits, blockSize, fenceCount}
 use Rattle.blocks.proofs.Sizes.{place-fits, few-groups, few-fences}
 use Rattle.steps.specs.Memory.{shapeOf}
 use Rattle.steps.specs.Entry.{Planned}
-use Rattle.steps.specs.Alter.{Suits, Fenced}
+use Rattle.steps.specs.Plans.{Suits, Fenced}
 use Rattle.steps.specs.declared.header.Header.{Header}
 use Rattle.steps.specs.declared.entry.Plan.{Plan}
 use Rattle.steps.proofs.Headers.{Within, within, within-limits}

@@ -6,7 +6,7 @@ ghost use Rattle.steps.specs.Reading.{valuePaper};
 ghost use Rattle.index.specs.Calls.{valueOutcome, queryOutcome};
 use crate::reading::read_row;
 use answers::Answer;
-use steps::alter::query_value;
+use values::alter::query_value;
 use steps::entry::Entry;
 use steps::entry::enter_row;
 use steps::entry::enter_value;

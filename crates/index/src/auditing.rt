@@ -11,7 +11,7 @@ ghost use Rattle.lists.specs.Combine.{either, combined, apart};
 ghost use Rattle.audits.specs.Audit.{soundLists};
 ghost use Rattle.blocks.specs.Block.{part, current};
 ghost use Rattle.blocks.specs.Shape.{fenceCount};
-ghost use Rattle.steps.specs.Alter.{Fenced, blockIn, listIn};
+ghost use Rattle.steps.specs.Plans.{Fenced, blockIn, listIn};
 ghost use Rattle.index.specs.Calls.{auditOutcome};
 ghost use Rattle.steps.specs.Entry.{Planned};
 ghost use Rattle.steps.specs.Fences.{rightFences};

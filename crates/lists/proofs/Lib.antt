@@ -3,7 +3,5 @@ pub mod Combining
 pub mod Covering
 pub mod Exclusive
 pub mod OneRow
-pub mod Onward
 pub mod Operations
 pub mod TurningOver
-pub mod Walks

@@ -1,4 +1,3 @@
-pub mod Walk
 pub mod Combine
 pub mod Copying
 pub mod OneRow

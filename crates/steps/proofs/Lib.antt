@@ -1,4 +1,4 @@
-pub mod Altering
 pub mod FenceRecords
 pub mod Headers
+pub mod Plans
 pub mod RowLaws

@@ -1,4 +1,4 @@
-pub mod Alter
+pub mod Plans
 pub mod Entry
 pub mod Fences
 pub mod Memory

@@ -8,7 +8,7 @@ ghost use Rattle.groups.specs.Rows.{Groups};
 ghost use Rattle.lists.specs.Combine.{either, combined, apart};
 ghost use Rattle.audits.specs.Audit.{soundLists};
 ghost use Rattle.blocks.specs.Block.{current};
-ghost use Rattle.steps.specs.Alter.{Suits, blockIn};
+ghost use Rattle.steps.specs.Plans.{Suits, blockIn};
 use crate::entry::Plan;
 use audits::audit::sound_lists;
 use audits::audit::take_value;

@@ -5,7 +5,7 @@ ghost use lib.ListN.{length};
 ghost use Rattle.blocks.specs.Shape.{fenceCount};
 ghost use Rattle.blocks.specs.Block.{valueLength};
 ghost use Rattle.blocks.specs.Fences.{cursorAt, fenceAt};
-ghost use Rattle.steps.specs.Alter.{Suits, blockIn, listIn};
+ghost use Rattle.steps.specs.Plans.{Suits, blockIn, listIn};
 ghost use Rattle.steps.specs.Fences.{isFence, fenceBefore};
 use crate::entry::Plan;
 use crate::header::Fence;

@@ -3,7 +3,7 @@ ghost use mathlib.Core.Path.{_≡_};
 ghost use Prim.Native.Nat.{_/_, _<_, _≤_};
 ghost use lib.ListN.{length};
 ghost use Rattle.blocks.specs.Read.{readGroup};
-ghost use Rattle.steps.specs.Alter.{Suits, blockIn};
+ghost use Rattle.steps.specs.Plans.{Suits, blockIn};
 ghost use Rattle.steps.specs.Reading.{noRow, rowStep, valueOf, refusedValue, isDamaged, isFree, holderOf};
 use crate::entry::Plan;
 use crate::header::Fence;

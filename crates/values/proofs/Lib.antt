@@ -1,3 +1,4 @@
+pub mod Altering
 pub mod EmptyUpdates
 pub mod Flipping
 pub mod Merging

@@ -2,8 +2,8 @@
 use crate::say::say;
 use crate::say::say_words;
 use lists::combine::xor_into;
-use lists::walk::Walk;
-use lists::walk::walk_to;
+use reads::walk::Walk;
+use reads::walk::walk_to;
 use words::check::Checked;
 use words::check::check;
 use words::word::group_in;

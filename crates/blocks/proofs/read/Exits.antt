@@ -6,7 +6,7 @@ use Prim.Native.Nat.{ℕ, _+_, _-_, _<_, _≤_}
 use lib.ListN.{getD, take, drop}
 use lib.Bits.{bitXor}
 use borrow.Author.Tests.{le-leb, lt-leb, lt-ltb, le-ltb}
-use Rattle.lists.specs.Walk.{walkTo}
+use Rattle.reads.specs.Walk.{walkTo}
 use Rattle.lists.proofs.Operations.{xor-onGroup}
 use Rattle.blocks.specs.Shape.{updateRoom, blockSize}
 use Rattle.blocks.specs.Block.{part}

@@ -6,7 +6,7 @@ use native.Mathlib.Omega.{arith}
 use Rattle.groups.specs.Rows.{rowLimit, groupsFor}
 use Rattle.blocks.proofs.Sizes.{rounded-group}
 use Rattle.blocks.specs.Shape.{blockSize}
-use Rattle.steps.specs.Alter.{Suits}
+use Rattle.steps.specs.Plans.{Suits}
 use Rattle.dumps.specs.Dumping.{fencesFor}
 use Rattle.steps.specs.declared.entry.Plan.{Plan}
 

@@ -7,11 +7,11 @@ use native.Mathlib.Omega.{arith}
 use lib.Bits.{bitXor}
 use Rattle.words.specs.Words.{runOf, groupIn}
 use Rattle.lists.specs.Combine.{exclusive}
-use Rattle.lists.specs.Walk.{walkTo}
-use Rattle.lists.specs.declared.walk.Covering.{Covering}
-use Rattle.lists.specs.declared.walk.Walk.the-variants.{Covered, Damaged}
+use Rattle.reads.specs.Walk.{walkTo}
+use Rattle.reads.specs.declared.walk.Covering.{Covering}
+use Rattle.reads.specs.declared.walk.Walk.the-variants.{Covered, Damaged}
 use Rattle.lists.proofs.Covering.{word-small}
-use Rattle.lists.proofs.Onward.{on-same}
+use Rattle.reads.proofs.Onward.{on-same}
 use Rattle.lists.proofs.Operations.{exclusive-bits, xor-onGroup, onGroup-lt}
 use Rattle.blocks.specs.declared.read.Reading.the-variants.{Group, Broken}
 use Rattle.dumps.specs.Dump.{alike, inLists}

@@ -11,7 +11,8 @@ use Rattle.answers.specs.declared.Answer.{Answer}
 use Rattle.answers.specs.declared.Answer.the-variants.{Refused}
 use Rattle.answers.specs.declared.Refusal.{Refusal}
 use Rattle.answers.specs.declared.Refusal.the-variants.{Damaged, OutSmall}
-use Rattle.steps.specs.Alter.{Suits, queryValue}
+use Rattle.values.specs.Alter.{queryValue}
+use Rattle.steps.specs.Plans.{Suits}
 use Rattle.steps.specs.Entry.{Planned, enteredValue, enteredRow}
 use Rattle.steps.specs.Memory.{Memory, memoryOf, blockAt, rowsIn}
 use Rattle.steps.specs.Reading.{rowOf, refusedValue, valueOf, valuePaper}

@@ -15,7 +15,7 @@ use Rattle.audits.specs.Audit.{soundLists}
 use Rattle.blocks.specs.Block.{part, valueLength, current}
 use Rattle.blocks.proofs.Sizes.{few-groups}
 use Rattle.audits.proofs.SoundLists.{sound-parts}
-use Rattle.steps.specs.Alter.{Fenced, blockIn, listIn}
+use Rattle.steps.specs.Plans.{Fenced, blockIn, listIn}
 use Rattle.steps.specs.Entry.{Planned}
 use Rattle.steps.specs.Fences.{rightFences}
 use Rattle.steps.specs.Memory.{Memory, memoryOf, withinLimits, shapeOf, lent, blockAt, rowsIn, fencesAt, soundValue, every, holdersOf, isSound}

@@ -10,7 +10,8 @@ use borrow.Author.Tests.{leb-false}
 use Rattle.answers.specs.Outcome.{Check, _when_}
 use Rattle.answers.specs.declared.Refusal.{Refusal}
 use Rattle.answers.specs.declared.Refusal.the-variants.{Damaged}
-use Rattle.steps.specs.Alter.{Fenced, isWhole, flipWords, flipFences}
+use Rattle.values.specs.Alter.{isWhole, flipWords, flipFences}
+use Rattle.steps.specs.Plans.{Fenced}
 use Rattle.steps.specs.Entry.{Planned, enteredRow}
 use Rattle.steps.specs.Memory.{Memory, memoryOf}
 use Rattle.steps.specs.Outcomes.{After, made, change, refusedBy, doneWith, Leaves}
@@ -23,7 +24,7 @@ use Rattle.steps.specs.declared.entry.Plan.{Plan}
 use Rattle.steps.specs.declared.entry.Entry.the-variants.{Ready, Stop}
 use Rattle.steps.specs.declared.row.Row.{Row}
 use Rattle.steps.specs.declared.row.Holder.the-variants.{Found, Lost}
-use Rattle.steps.proofs.Altering.{flip-kept}
+use Rattle.values.proofs.Altering.{flip-kept}
 use Rattle.index.proofs.Entries.{Enters, ready-enters, ready-change}
 use Rattle.index.proofs.changing.Leaving.{refused-leaves, made-leaves, is-false, is-true, fences-kept, memory-flipped, stops, whole-is, holder-checks, lost, says, old-below, passed}
 use Rattle.index.proofs.Planning.{numbers, fenced}

@@ -9,7 +9,8 @@ use borrow.Author.Tests.{leb-false}
 use Rattle.answers.specs.Outcome.{Check, _when_}
 use Rattle.answers.specs.declared.Refusal.{Refusal}
 use Rattle.answers.specs.declared.Refusal.the-variants.{Full, Damaged}
-use Rattle.steps.specs.Alter.{Fenced, isWhole, flipWords, flipFences}
+use Rattle.values.specs.Alter.{isWhole, flipWords, flipFences}
+use Rattle.steps.specs.Plans.{Fenced}
 use Rattle.steps.specs.Entry.{Planned, enteredInsert, grown}
 use Rattle.steps.specs.Memory.{Memory, memoryOf}
 use Rattle.steps.specs.Outcomes.{After, made, change, refusedBy, doneWith, Leaves}
@@ -21,7 +22,7 @@ use Rattle.steps.specs.declared.header.Changed.{Changed}
 use Rattle.steps.specs.declared.entry.Plan.{Plan}
 use Rattle.steps.specs.declared.entry.Entry.the-variants.{Ready, Stop}
 use Rattle.steps.specs.declared.row.Row.{Row}
-use Rattle.steps.proofs.Altering.{flip-kept}
+use Rattle.values.proofs.Altering.{flip-kept}
 use Rattle.index.proofs.Entries.{Enters, ready-enters, ready-change}
 use Rattle.index.proofs.changing.Leaving.{refused-leaves, made-leaves, is-false, is-true, fences-kept, memory-flipped, stops, whole-is}
 use Rattle.index.proofs.Planning.{fenced}

@@ -9,7 +9,7 @@ use borrow.Author.Tests.{eqb-false}
 use Rattle.answers.specs.Outcome.{Check, _when_}
 use Rattle.answers.specs.declared.Refusal.{Refusal}
 use Rattle.answers.specs.declared.Refusal.the-variants.{Damaged, Gone}
-use Rattle.steps.specs.Alter.{isWhole, flipWords, flipFences}
+use Rattle.values.specs.Alter.{isWhole, flipWords, flipFences}
 use Rattle.steps.specs.Entry.{planOf}
 use Rattle.steps.specs.Memory.{Memory, memoryOf}
 use Rattle.steps.specs.Outcomes.{After, made, change, refusedBy, doneWith, Leaves}

@@ -8,7 +8,8 @@ use borrow.Author.Tests.{leb-false}
 use Rattle.answers.specs.Outcome.{Check, _when_}
 use Rattle.answers.specs.declared.Refusal.{Refusal}
 use Rattle.answers.specs.declared.Refusal.the-variants.{Damaged}
-use Rattle.steps.specs.Alter.{Fenced, isWhole, mergeAlter, mergeWords, renewedFences}
+use Rattle.values.specs.Alter.{isWhole, mergeAlter, mergeWords, renewedFences}
+use Rattle.steps.specs.Plans.{Fenced}
 use Rattle.steps.specs.Entry.{enteredValue}
 use Rattle.steps.specs.Memory.{Memory, memoryOf}
 use Rattle.steps.specs.Outcomes.{After, made, change, refusedBy, doneWith, Leaves}
@@ -18,13 +19,13 @@ use Rattle.steps.specs.declared.header.Fence.{Fence}
 use Rattle.steps.specs.declared.header.Changed.{Changed}
 use Rattle.steps.specs.declared.entry.Plan.{Plan}
 use Rattle.steps.specs.declared.entry.Entry.the-variants.{Ready, Stop}
-use Rattle.steps.specs.declared.alter.Alter.the-variants.{Fails, Renews}
-use Rattle.steps.proofs.Altering.{merge-kept}
+use Rattle.values.specs.declared.alter.Alter.the-variants.{Fails, Renews}
+use Rattle.values.proofs.Altering.{merge-kept}
 use Rattle.index.proofs.Entries.{Enters, ready-enters, ready-change}
 use Rattle.index.proofs.MemoryLeft.{merged-memory}
 use Rattle.index.proofs.changing.Leaving.{refused-leaves, made-leaves, stops, whole-is}
 use Rattle.index.proofs.Planning.{fenced}
-use Rattle.steps.proofs.alter.Answers.{merge-fails, merge-renews}
+use Rattle.values.proofs.alter.Answers.{merge-fails, merge-renews}
 
 module _ (words : List ℕ) (fences : List Fence) (header : Header) where
   abbrev memory : Memory

@@ -7,15 +7,16 @@ use lib.ListN.{length}
 use Rattle.answers.specs.declared.Refusal.{Refusal}
 use Rattle.blocks.specs.Block.{valueLength}
 use Rattle.blocks.proofs.WholeLists.{whole-parts}
-use Rattle.steps.specs.Alter.{Fenced, blockIn, isWhole, mergeAlter, mergeWords, flipAlter, flipWords, moveAlter, moveWords}
-use Rattle.steps.specs.Alter.{renewedFences, renewedIf, flipFences, moveFences}
-use Rattle.steps.specs.declared.alter.Alter.the-variants.{Fails, Keeps, Renews}
-use Rattle.steps.specs.declared.alter.Move.the-variants.{Breaks, Moves}
+use Rattle.values.specs.Alter.{isWhole, mergeAlter, mergeWords, flipAlter, flipWords, moveAlter, moveWords}
+use Rattle.steps.specs.Plans.{Fenced, blockIn}
+use Rattle.values.specs.Alter.{renewedFences, renewedIf, flipFences, moveFences}
+use Rattle.values.specs.declared.alter.Alter.the-variants.{Fails, Keeps, Renews}
+use Rattle.values.specs.declared.alter.Move.the-variants.{Breaks, Moves}
 use Rattle.steps.specs.declared.entry.Plan.{Plan}
 use Rattle.steps.specs.declared.header.Fence.{Fence}
-use Rattle.steps.proofs.Altering.{merge-whole, flip-whole}
-use Rattle.steps.proofs.alter.Answers.{merge-renews, flip-fails, flip-renews, flip-keeps, move-breaks, move-moves}
-use Rattle.steps.proofs.alter.Moving.{move-old-whole, move-new-whole}
+use Rattle.values.proofs.Altering.{merge-whole, flip-whole}
+use Rattle.values.proofs.alter.Answers.{merge-renews, flip-fails, flip-renews, flip-keeps, move-breaks, move-moves}
+use Rattle.values.proofs.alter.Moving.{move-old-whole, move-new-whole}
 
 -- ---- what making fences anew asks, of words that a change has left
 

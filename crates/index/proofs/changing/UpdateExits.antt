@@ -10,7 +10,8 @@ use borrow.Author.Tests.{leb-false, eqb-false}
 use Rattle.answers.specs.Outcome.{Check, _when_}
 use Rattle.answers.specs.declared.Refusal.{Refusal}
 use Rattle.answers.specs.declared.Refusal.the-variants.{Damaged}
-use Rattle.steps.specs.Alter.{Suits, Fenced, isWhole, moveWords, moveFences}
+use Rattle.values.specs.Alter.{isWhole, moveWords, moveFences}
+use Rattle.steps.specs.Plans.{Suits, Fenced}
 use Rattle.steps.specs.Entry.{planOf, Planned, enteredUpdate}
 use Rattle.steps.specs.Memory.{Memory, memoryOf}
 use Rattle.steps.specs.Outcomes.{After, made, change, refusedBy, doneWith, Leaves}
@@ -28,7 +29,7 @@ use Rattle.index.proofs.MemoryLeft.{moved-memory}
 use Rattle.index.proofs.changing.Leaving.{refused-leaves, made-leaves, is-false, is-true, stops, whole-is, holder-checks, lost, says, old-below, passed}
 use Rattle.walks.proofs.Flow.{holds}
 use Rattle.index.proofs.Planning.{numbers, fenced}
-use Rattle.steps.proofs.alter.Moving.{move-kept}
+use Rattle.values.proofs.alter.Moving.{move-kept}
 
 -- ---- a move, as the call has it
 

@@ -8,7 +8,7 @@ use lib.Dec.{T}
 use lib.ListN.{length, getD}
 use Rattle.groups.specs.Rows.{rowLimit}
 use Rattle.steps.specs.Entry.{Planned}
-use Rattle.steps.specs.Alter.{Suits, blockIn}
+use Rattle.steps.specs.Plans.{Suits, blockIn}
 use Rattle.dumps.specs.Dumping.{fencesFor, fenceHolds, fenceMarked, fenceNumber, fencesHold, markedFences, valuesHold, markedValues}
 use Rattle.steps.specs.Fences.{noFence}
 use Rattle.steps.specs.Memory.{Memory, memoryOf}

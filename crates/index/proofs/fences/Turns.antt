@@ -14,7 +14,8 @@ use Rattle.blocks.specs.Block.{part, write}
 use Rattle.blocks.specs.Fences.{fenceAt}
 use Rattle.blocks.specs.declared.fence.Cursor.{Cursor}
 use Rattle.blocks.proofs.Parts.{length-part, getD-part, write-part, write-more}
-use Rattle.steps.specs.Alter.{Suits, listIn, renewedFences}
+use Rattle.values.specs.Alter.{renewedFences}
+use Rattle.steps.specs.Plans.{Suits, listIn}
 use Rattle.steps.specs.Fences.{fence, noFence, fencesFrom, fenceBefore, isFence, rightFences}
 use Rattle.steps.specs.declared.header.Fence.{Fence}
 use Rattle.steps.specs.declared.entry.Plan.{Plan}

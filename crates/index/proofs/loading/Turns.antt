@@ -12,7 +12,8 @@ use Rattle.blocks.proofs.Sizes.{place-fits}
 use Rattle.columns.specs.Column.{loaded}
 use Rattle.columns.proofs.Columns.{whole-loaded}
 use Rattle.steps.specs.Entry.{Planned}
-use Rattle.steps.specs.Alter.{Fenced, blockIn, isWhole, renewedFences}
+use Rattle.values.specs.Alter.{isWhole, renewedFences}
+use Rattle.steps.specs.Plans.{Fenced, blockIn}
 use Rattle.steps.specs.Memory.{Memory, memoryOf, shapeOf, blockAt}
 use Rattle.columns.specs.Spread.{Blocks, loadedWords}
 use Rattle.index.specs.Calls.{withBlock, renewed, loadedIn}

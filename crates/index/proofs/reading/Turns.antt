@@ -7,7 +7,7 @@ use native.Mathlib.Omega.{arith}
 use lib.ListN.{length, getD}
 use Rattle.blocks.specs.Read.{readGroup}
 use Rattle.steps.specs.Entry.{Planned}
-use Rattle.steps.specs.Alter.{Suits, blockIn}
+use Rattle.steps.specs.Plans.{Suits, blockIn}
 use Rattle.steps.specs.Fences.{noFence}
 use Rattle.steps.specs.Memory.{Memory, memoryOf, blockAt}
 use Rattle.steps.specs.Reading.{fenceFor, readIn, rowStep, readRow, rowOf}

@@ -8,7 +8,7 @@ use native.Mathlib.Omega.{arith}
 use borrow.Author.Needs.{needs}
 use borrow.Author.Tests.{not-true, not-false}
 use lib.ListN.{length}
-use Rattle.lists.specs.Walk.{walkTo}
+use Rattle.reads.specs.Walk.{walkTo}
 use Rattle.blocks.specs.declared.read.Reading.{Reading}
 use Rattle.blocks.specs.declared.read.Reading.the-variants.{Broken}
 use Rattle.dumps.specs.Dump.{inLists}

@@ -43,7 +43,8 @@ use Rattle.steps.specs.Memory.{memoryOf}
 use Rattle.index.specs.Calls.{queryOutcome}
 use Rattle.index.proofs.answering.Exits.{query-suits, query-listed, query-stops}
 use Rattle.steps.specs.Entry.{enteredValue}
-use Rattle.steps.specs.Alter.{Suits, queryValue}
+use Rattle.values.specs.Alter.{queryValue}
+use Rattle.steps.specs.Plans.{Suits}
 use Rattle.answers.specs.declared.Answer.{Answer}
 use Rattle.answers.proofs.Answer as Answer-T
 use Rattle.answers.proofs.Answer.Laws as Answer-L
@@ -69,10 +70,10 @@ use Rattle.steps.proofs.entry.enter_value as enter-value-F
 use Rattle.steps.proofs.entry.enter_value.Symbol as enter-value-def
 use Rattle.steps.proofs.entry.enter_value.Symbol.{name as #steps·enter-value}
 use Rattle.steps.proofs.entry.enter_value.Met as enter-value-thm
-use Rattle.steps.proofs.alter.query_value as query-value-F
-use Rattle.steps.proofs.alter.query_value.Symbol as query-value-def
-use Rattle.steps.proofs.alter.query_value.Symbol.{name as #steps·query-value}
-use Rattle.steps.proofs.alter.query_value.Met as query-value-thm
+use Rattle.values.proofs.alter.query_value as query-value-F
+use Rattle.values.proofs.alter.query_value.Symbol as query-value-def
+use Rattle.values.proofs.alter.query_value.Symbol.{name as #values·query-value}
+use Rattle.values.proofs.alter.query_value.Met as query-value-thm
 use Rattle.index.proofs.answering.query.Key.{name as #index·query}
 use Rattle.index.proofs.answering.query as query-F
 use Rattle.index.proofs.answering.query.Statement as stated
@@ -113,7 +114,7 @@ module _ {M : Type 1} (𝓤 : URA M) (H : Heap 𝓤) (A : Atoms 𝓤) (W : Given
       suffices ! _ (ends-at 𝓤 H A query-F.ended stayed (query-F.clauses 𝓤 H A mem run) W bound-of u r (tt, (tt, (out′, (tt, (tt, tt))))) (tt, (tt, (n-out′, (tt, (tt, tt)))))) $ says ! e $
       nothing ! $ move ! (3 ∷ 0 ∷ []) $ join ! $ move ! (2 ∷ 0 ∷ []) $ join ! $ move ! (1 ∷ 0 ∷ []) $ join ! $ frame ! $ nothing ! $ nothing ! $ fjoin ! $ nothing ! $ fjoin ! $ move ! (1 ∷ 0 ∷ []) $ fjoin ! $ nothing ! $ fjoin ! $ nothing ! $ fjoin ! $ frame ! $ owned ! Answer-T.the-row (Is Answer-T.the-row) (EL.makes Answer-T.the-type Answer-L.the-plain 𝓤 H A) r _ is $ done !
 
-  module _ (𝓣 : Tables 𝓤 H) (fm : FmC 𝓤 H (W .laws) (𝓣 .C)) (known-enter-value : Triple 𝓤 (𝓣 .C #steps·enter-value) (contractOf 𝓤 H A enter-value-F.ended (enter-value-F.clauses 𝓤 H A mem run))) (known-query-value : Triple 𝓤 (𝓣 .C #steps·query-value) (contractOf 𝓤 H A query-value-F.ended (query-value-F.clauses 𝓤 H A mem run))) where
+  module _ (𝓣 : Tables 𝓤 H) (fm : FmC 𝓤 H (W .laws) (𝓣 .C)) (known-enter-value : Triple 𝓤 (𝓣 .C #steps·enter-value) (contractOf 𝓤 H A enter-value-F.ended (enter-value-F.clauses 𝓤 H A mem run))) (known-query-value : Triple 𝓤 (𝓣 .C #values·query-value) (contractOf 𝓤 H A query-value-F.ended (query-value-F.clauses 𝓤 H A mem run))) where
     walk : Room u32 (length words) → Room Fence-T.the-row (length fences) → Room u32 (length out) → Is Header-T.the-row header (SL.vals Header-T.the-type Header-L.the-laws header) → value < 2 ^ 32 → ent 𝓤 (onEntry 𝓤 H A query-F.signature (κ₀, (κ₁, (κ₂, tt))) (q₀, (q₁, (q₂, tt))) args-of vals-of) (WpFn 𝓤 H (𝓣 .C) (𝓣 .Λ) code.function (sliceVal (b₀, o₀) (length words) ∷ sliceVal (b₁, o₁) (length fences) ∷ sliceVal (b₂, o₂) (length out) ∷ SL.val Header-T.the-type Header-L.the-laws header ∷ vint w32 value ∷ []) Post)
     walk room-words room-fences room-out is-header fit-value =
         qed W ((‵ (flft κ₀ q₀) ⊛ (‵ (flft κ₁ q₁) ⊛ (‵ (flft κ₂ q₂) ⊛ ‵ ftrue))) ∷ ‵ (owns (ShrSlice (named 0) κ₀ u32 ∷ ShrSlice (named 1) κ₁ Fence-T.the-row ∷ MutSlice (named 2) κ₂ u32 ∷ Header-T.the-row ∷ u32 ∷ []) args-of vals-of) ∷ []) ∵ enter ! (𝓣 .C) (𝓣 .Λ) code.function (sliceVal (b₀, o₀) (length words) ∷ sliceVal (b₁, o₁) (length fences) ∷ sliceVal (b₂, o₂) (length out) ∷ SL.val Header-T.the-type Header-L.the-laws header ∷ vint w32 value ∷ []) _ $
@@ -135,7 +136,7 @@ module _ {M : Type 1} (𝓤 : URA M) (H : Heap 𝓤) (A : Atoms 𝓤) (W : Given
               assigns ! (addr ! (from ! (fld ! refl (hop ! (look-in ! 26 (sub ! 0 refl (whole !))) (stop !))))) (from ! (stop !)) (init ! 8 refl (tt, tt)) $
               assigns ! (agg ! (and-then ! (load ! (from ! (stop !)) (look ! 8 refl)) (and-then ! (load ! (from ! (fld ! refl (stop !))) (look-in ! 26 (sub ! 1 refl (whole !)))) (no-more !)))) (from ! (stop !)) (init ! 6 refl (tt, (tt, (record { fits = room-out .0 }, tt)))) $
               move ! (0 ∷ 1 ∷ 4 ∷ 5 ∷ []) $
-              -- steps::alter::query_value
+              -- values::alter::query_value
               calls-shr-mut-last ! fm u32 u32 Answer-T.the-row (plain (λ _. Plan-T.the-row) ∷ plain (λ _. u32) ∷ []) (yes, (yes, tt)) (query-value-F.clauses 𝓤 H A mem run) known-query-value b₀ o₀ γ₀ words (length words) refl b₂ o₂ γ₂ out (length out) refl
               (λ κs. (r1-0, (value, tt))) (λ κs. (SL.val Plan-T.the-type Plan-L.the-laws r1-0 ∷ [], (vint w32 value ∷ [], tt))) (λ κs. owns-make 𝓤 H A (Plan-T.the-row ∷ u32 ∷ []) (Ises (Plan-T.the-row ∷ u32 ∷ [])) (SL.makes Plan-T.the-type Plan-L.the-plain 𝓤 H A, (uint-makes 𝓤 H A W w32, tt)) (r1-0, (value, tt)) (SL.val Plan-T.the-type Plan-L.the-laws r1-0 ∷ [], (vint w32 value ∷ [], tt)) ((EL.owed Entry-T.the-type Entry-L.the-laws (Ready r1-0) _ is1 .0), ((refl, fit-value), tt))) (λ κs δ₀ δ₁. tt) (λ κs δ₀ δ₁. factI 𝓤 (Suits r1-0 (length words) value) (emp 𝓤) (call-2 words fences out header value r1-0 e1))
               (λ r2 out2. Gives (queryValue r1-0 words value out) r2 out2) (λ κs δ₀ δ₁ r2 ws. id⊢ 𝓤 _) (λ κs δ₀ δ₁. (and-then ! (load ! (from ! (stop !)) (look ! 30 refl)) (and-then ! (load ! (from ! (stop !)) (look ! 6 refl)) (and-then ! (load ! (from ! (stop !)) (look ! 18 refl)) (and-then ! (load ! (from ! (stop !)) (look ! 22 refl)) (no-more !))))))
@@ -161,12 +162,12 @@ module _ {M : Type 1} (𝓤 : URA M) (H : Heap 𝓤) (A : Atoms 𝓤) (W : Given
         ])))))))))))))))
 
 module _ {M : Type 1} (𝓤 : URA M) (H : Heap 𝓤) (A : Atoms 𝓤) (W : Given 𝓤 H A) (mem : Memory → SProp 𝓤) (run : Routine → Fun 𝓤) where
-  query-walks : (𝓣 : Tables 𝓤 H) → Triple 𝓤 (𝓣 .C #steps·enter-value) (contractOf 𝓤 H A enter-value-F.ended (enter-value-F.clauses 𝓤 H A mem run)) → Triple 𝓤 (𝓣 .C #steps·query-value) (contractOf 𝓤 H A query-value-F.ended (query-value-F.clauses 𝓤 H A mem run)) → Walks 𝓤 H A query-F.ended stayed (WpFn 𝓤 H (𝓣 .C) (𝓣 .Λ) code.function) (query-F.clauses 𝓤 H A mem run)
+  query-walks : (𝓣 : Tables 𝓤 H) → Triple 𝓤 (𝓣 .C #steps·enter-value) (contractOf 𝓤 H A enter-value-F.ended (enter-value-F.clauses 𝓤 H A mem run)) → Triple 𝓤 (𝓣 .C #values·query-value) (contractOf 𝓤 H A query-value-F.ended (query-value-F.clauses 𝓤 H A mem run)) → Walks 𝓤 H A query-F.ended stayed (WpFn 𝓤 H (𝓣 .C) (𝓣 .Λ) code.function) (query-F.clauses 𝓤 H A mem run)
   query-walks 𝓣 known-enter-value known-query-value =
       walked 𝓤 H A query-F.ended stayed (query-F.clauses 𝓤 H A mem run) (WpFn 𝓤 H (𝓣 .C) (𝓣 .Λ) code.function) (λ κs. (slice-vals, (slice-vals, (slice-vals, (SL.vals Header-T.the-type Header-L.the-laws, (uint-vals w32, tt)))))) (λ κs. (shr-slice-tells (named 0) (κs .0) u32, (shr-slice-tells (named 1) (κs .1 .0) Fence-T.the-row, (mut-slice-tells (named 2) (κs .1 .1 .0) u32, (SL.tells Header-T.the-type Header-L.the-laws, (uint-tells w32, tt))))))
       (λ κs qs bounds a g are. via 𝓤 _ (fst∗ 𝓤 _ (emp 𝓤)) (walk 𝓤 H A W mem run (κs .0) (κs .1 .0) (κs .1 .1 .0) (qs .0) (qs .1 .0) (qs .1 .1 .0) (a .0 .ptr .0) (a .0 .ptr .1) (a .0 .name) (a .0 .now) (a .1 .0 .ptr .0) (a .1 .0 .ptr .1) (a .1 .0 .name) (a .1 .0 .now) (a .1 .1 .0 .ptr .0) (a .1 .1 .0 .ptr .1) (a .1 .1 .0 .name) (a .1 .1 .0 .now) (a .1 .1 .1 .0) (a .1 .1 .1 .1 .0) 𝓣 (fmOf 𝓤 H (W .laws) 𝓣) known-enter-value known-query-value (are .0 .0 .1) (are .1 .0 .0 .1) (are .1 .1 .0 .0 .1) (are .1 .1 .1 .0) (are .1 .1 .1 .1 .0 .1)))
 
-query-meets : {M : Type 1} (𝓤 : URA M) (H : Heap 𝓤) (A : Atoms 𝓤) (W : Given 𝓤 H A) (mem : Memory → SProp 𝓤) (run : Routine → Fun 𝓤) (𝓣 : Tables 𝓤 H) → Triple 𝓤 (𝓣 .C #steps·enter-value) (contractOf 𝓤 H A enter-value-F.ended (enter-value-F.clauses 𝓤 H A mem run)) → Triple 𝓤 (𝓣 .C #steps·query-value) (contractOf 𝓤 H A query-value-F.ended (query-value-F.clauses 𝓤 H A mem run)) → Meets 𝓤 H A query-F.signature (WpFn 𝓤 H (𝓣 .C) (𝓣 .Λ) code.function) (query-F.spec 𝓤 H A mem run)
+query-meets : {M : Type 1} (𝓤 : URA M) (H : Heap 𝓤) (A : Atoms 𝓤) (W : Given 𝓤 H A) (mem : Memory → SProp 𝓤) (run : Routine → Fun 𝓤) (𝓣 : Tables 𝓤 H) → Triple 𝓤 (𝓣 .C #steps·enter-value) (contractOf 𝓤 H A enter-value-F.ended (enter-value-F.clauses 𝓤 H A mem run)) → Triple 𝓤 (𝓣 .C #values·query-value) (contractOf 𝓤 H A query-value-F.ended (query-value-F.clauses 𝓤 H A mem run)) → Meets 𝓤 H A query-F.signature (WpFn 𝓤 H (𝓣 .C) (𝓣 .Λ) code.function) (query-F.spec 𝓤 H A mem run)
 query-meets 𝓤 H A W mem run 𝓣 known-enter-value known-query-value =
     walk-meets 𝓤 H A query-F.ended stayed W (goes-dropped 𝓤 H A W 3 (shrSliceOf (0 ∷ []) tt (plain (λ _. u32))) yes (λ κs x f. refl), (goes-dropped 𝓤 H A W 3 (shrSliceOf (1 ∷ []) tt (plain (λ _. Fence-T.the-row))) yes (λ κs x f. refl), (goes-slice 𝓤 H A W 3 2 tt (plain (λ _. u32)), (goes-dropped 𝓤 H A W 3 (plain (λ _. Header-T.the-row)) yes (λ κs x f. refl), (goes-dropped 𝓤 H A W 3 (plain (λ _. u32)) yes (λ κs x f. refl), tt)))))
     (query-F.clauses 𝓤 H A mem run) (WpFn 𝓤 H (𝓣 .C) (𝓣 .Λ) code.function) (WpFn-mono 𝓤 H (W .laws) 𝓣 code.function) (query-walks 𝓤 H A W mem run 𝓣 known-enter-value known-query-value)
@@ -178,4 +179,4 @@ query-spec 𝓤 H 𝓜 𝓖 𝓡 =
     (tables 𝓤 H 𝓜 𝓡 code.env .C) (tables 𝓤 H 𝓜 𝓡 code.env .Λ) #index·query code.function (code.unfolded 𝓤 H 𝓜 𝓡)
     (query-meets 𝓤 H (𝓖 .A) (givenOf 𝓤 H 𝓜 𝓖) (𝓜 .mem) (𝓡 .run) (tablesOf 𝓤 H 𝓜 (tables 𝓤 H 𝓜 𝓡 code.env))
     (cited 𝓤 H (tripleOf 𝓤 H (𝓖 .A) enter-value-F.signature (enter-value-F.spec 𝓤 H (𝓖 .A) (𝓜 .mem) (𝓡 .run))) 𝓜 𝓡 code.env #steps·enter-value enter-value-def.routine code.calls-steps·entry·enter-value (enter-value-thm.met 𝓤 H 𝓜 𝓖 𝓡))
-    (cited 𝓤 H (tripleOf 𝓤 H (𝓖 .A) query-value-F.signature (query-value-F.spec 𝓤 H (𝓖 .A) (𝓜 .mem) (𝓡 .run))) 𝓜 𝓡 code.env #steps·query-value query-value-def.routine code.calls-steps·alter·query-value (query-value-thm.met 𝓤 H 𝓜 𝓖 𝓡)))
+    (cited 𝓤 H (tripleOf 𝓤 H (𝓖 .A) query-value-F.signature (query-value-F.spec 𝓤 H (𝓖 .A) (𝓜 .mem) (𝓡 .run))) 𝓜 𝓡 code.env #values·query-value query-value-def.routine code.calls-values·alter·query-value (query-value-thm.met 𝓤 H 𝓜 𝓖 𝓡)))

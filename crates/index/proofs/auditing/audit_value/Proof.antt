@@ -43,7 +43,7 @@ use Rattle.lists.specs.Combine.{either, combined, apart}
 use Rattle.audits.specs.Audit.{soundLists}
 use Rattle.blocks.specs.Block.{part, current, valueLength}
 use Rattle.blocks.specs.Shape.{fenceCount}
-use Rattle.steps.specs.Alter.{Fenced, blockIn, listIn, Suits}
+use Rattle.steps.specs.Plans.{Fenced, blockIn, listIn, Suits}
 use Rattle.steps.specs.Fences.{rightFences}
 use Rattle.index.proofs.auditing.Turns.{lists-fail, fences-ask, fences-tell}
 use Rattle.steps.specs.declared.header.Fence.{Fence}

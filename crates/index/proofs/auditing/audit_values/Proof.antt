@@ -45,7 +45,7 @@ use Rattle.lists.specs.Combine.{either, combined, apart}
 use Rattle.audits.specs.Audit.{soundLists}
 use Rattle.blocks.specs.Block.{part, current}
 use Rattle.blocks.specs.Shape.{fenceCount}
-use Rattle.steps.specs.Alter.{Fenced, blockIn, listIn}
+use Rattle.steps.specs.Plans.{Fenced, blockIn, listIn}
 use Rattle.steps.specs.Entry.{Planned}
 use Rattle.steps.specs.Fences.{rightFences}
 use Rattle.steps.specs.Memory.{memoryOf, isSound}

@@ -40,11 +40,12 @@ use denote.Triple.Statement.{Triple}
 use denote.Triple.Table.{entered, cited}
 use denote.Triple.Walked.{says, needs, Stays, stay-slice, stay-dropped, walkOf, Walks, ends-at, walked, goes-slice, goes-dropped, walk-meets}
 use Rattle.blocks.specs.Block.{valueLength}
-use Rattle.steps.specs.Alter.{Fenced, blockIn, isWhole, flipWords, flipFences, Suits, flipAlter, renewedFences}
+use Rattle.values.specs.Alter.{isWhole, flipWords, flipFences, flipAlter, renewedFences}
+use Rattle.steps.specs.Plans.{Fenced, blockIn, Suits}
 use Rattle.index.proofs.changing.Steps.{flip-asks, flip-refused, flip-keeps-fences, flip-renews-fences}
-use Rattle.steps.proofs.alter.Alter as Alter-T
-use Rattle.steps.proofs.alter.Alter.Laws as Alter-L
-use Rattle.steps.specs.declared.alter.Alter.the-variants.{Fails, Keeps, Renews}
+use Rattle.values.proofs.alter.Alter as Alter-T
+use Rattle.values.proofs.alter.Alter.Laws as Alter-L
+use Rattle.values.specs.declared.alter.Alter.the-variants.{Fails, Keeps, Renews}
 use Rattle.steps.specs.declared.header.Fence.{Fence}
 use Rattle.steps.proofs.header.Fence as Fence-T
 use Rattle.steps.specs.declared.entry.Plan.{Plan}
@@ -54,10 +55,10 @@ use Rattle.answers.specs.declared.Refusal.{Refusal}
 use Rattle.walks.proofs.Lend.{ref}
 use Rattle.walks.proofs.Flow.{matches, frees-all}
 use Rattle.walks.proofs.Calls.{contractOf, calls-mut, calls-view-mut}
-use Rattle.steps.proofs.alter.flip_value as flip-value-F
-use Rattle.steps.proofs.alter.flip_value.Symbol as flip-value-def
-use Rattle.steps.proofs.alter.flip_value.Symbol.{name as #steps·flip-value}
-use Rattle.steps.proofs.alter.flip_value.Met as flip-value-thm
+use Rattle.values.proofs.alter.flip_value as flip-value-F
+use Rattle.values.proofs.alter.flip_value.Symbol as flip-value-def
+use Rattle.values.proofs.alter.flip_value.Symbol.{name as #values·flip-value}
+use Rattle.values.proofs.alter.flip_value.Met as flip-value-thm
 use Rattle.index.proofs.fences.renew as renew-F
 use Rattle.index.proofs.fences.renew.Symbol as renew-def
 use Rattle.index.proofs.fences.renew.Symbol.{name as #index·renew}
@@ -108,7 +109,7 @@ module _ {M : Type 1} (𝓤 : URA M) (H : Heap 𝓤) (A : Atoms 𝓤) (W : Given
       suffices ! _ (ends-at 𝓤 H A flip-fenced-F.ended stayed (flip-fenced-F.clauses 𝓤 H A mem run) W bound-of u r (words′, (fences′, (tt, (tt, (tt, tt))))) (n-words′, (n-fences′, (tt, (tt, (tt, tt)))))) $ says ! e $
       nothing ! $ move ! (3 ∷ 0 ∷ []) $ join ! $ move ! (1 ∷ 0 ∷ []) $ join ! $ frame ! $ nothing ! $ nothing ! $ fjoin ! $ nothing ! $ fjoin ! $ nothing ! $ fjoin ! $ move ! (2 ∷ 0 ∷ []) $ fjoin ! $ move ! (1 ∷ 0 ∷ []) $ fjoin ! $ frame ! $ owned ! Boolean (Is Boolean) (bool-makes 𝓤 H A W) r _ is $ done !
 
-  module _ (𝓣 : Tables 𝓤 H) (fm : FmC 𝓤 H (W .laws) (𝓣 .C)) (known-flip-value : Triple 𝓤 (𝓣 .C #steps·flip-value) (contractOf 𝓤 H A flip-value-F.ended (flip-value-F.clauses 𝓤 H A mem run))) (known-renew : Triple 𝓤 (𝓣 .C #index·renew) (contractOf 𝓤 H A renew-F.ended (renew-F.clauses 𝓤 H A mem run))) where
+  module _ (𝓣 : Tables 𝓤 H) (fm : FmC 𝓤 H (W .laws) (𝓣 .C)) (known-flip-value : Triple 𝓤 (𝓣 .C #values·flip-value) (contractOf 𝓤 H A flip-value-F.ended (flip-value-F.clauses 𝓤 H A mem run))) (known-renew : Triple 𝓤 (𝓣 .C #index·renew) (contractOf 𝓤 H A renew-F.ended (renew-F.clauses 𝓤 H A mem run))) where
     walk : Room u32 (length words) → Room Fence-T.the-row (length fences) → Is Plan-T.the-row plan (SL.vals Plan-T.the-type Plan-L.the-laws plan) → value < 2 ^ 32 → row′ < 2 ^ 32 → Fenced plan (length words) (length fences) value × (row′ < plan .shape .rows) → ent 𝓤 (onEntry 𝓤 H A flip-fenced-F.signature (κ₀, (κ₁, tt)) (q₀, (q₁, tt)) args-of vals-of) (WpFn 𝓤 H (𝓣 .C) (𝓣 .Λ) code.function (sliceVal (b₀, o₀) (length words) ∷ sliceVal (b₁, o₁) (length fences) ∷ SL.val Plan-T.the-type Plan-L.the-laws plan ∷ vint w32 value ∷ vint w32 row′ ∷ []) Post)
     walk room-words room-fences is-plan fit-value fit-row′ req =
         qed W ((‵ (flft κ₀ q₀) ⊛ (‵ (flft κ₁ q₁) ⊛ ‵ ftrue)) ∷ ‵ (owns (MutSlice (named 0) κ₀ u32 ∷ MutSlice (named 1) κ₁ Fence-T.the-row ∷ Plan-T.the-row ∷ u32 ∷ u32 ∷ []) args-of vals-of) ∷ []) ∵ enter ! (𝓣 .C) (𝓣 .Λ) code.function (sliceVal (b₀, o₀) (length words) ∷ sliceVal (b₁, o₁) (length fences) ∷ SL.val Plan-T.the-type Plan-L.the-laws plan ∷ vint w32 value ∷ vint w32 row′ ∷ []) _ $
@@ -118,7 +119,7 @@ module _ {M : Type 1} (𝓤 : URA M) (H : Heap 𝓤) (A : Atoms 𝓤) (W : Given
         -- [words's token; words; fences's token; fences; _14; …; _0; …]
         assigns ! (addr ! (from ! (fld ! refl (hop ! (look-in ! 30 (sub ! 0 refl (whole !))) (stop !))))) (from ! (stop !)) (init ! 18 refl (tt, tt)) $
         assigns ! (agg ! (and-then ! (load ! (from ! (stop !)) (look ! 18 refl)) (and-then ! (load ! (from ! (fld ! refl (stop !))) (look-in ! 30 (sub ! 1 refl (whole !)))) (no-more !)))) (from ! (stop !)) (init ! 16 refl (tt, (tt, (record { fits = room-words .0 }, tt)))) $
-        -- steps::alter::flip_value
+        -- values::alter::flip_value
         calls-mut ! fm u32 Alter-T.the-row (plain (λ _. Plan-T.the-row) ∷ plain (λ _. u32) ∷ plain (λ _. u32) ∷ []) (yes, (yes, (yes, tt))) (flip-value-F.clauses 𝓤 H A mem run) known-flip-value b₀ o₀ γ₀ words (length words) refl
         (λ κs. (plan, (value, (row′, tt)))) (λ κs. (SL.val Plan-T.the-type Plan-L.the-laws plan ∷ [], (vint w32 value ∷ [], (vint w32 row′ ∷ [], tt)))) (λ κs. owns-make 𝓤 H A (Plan-T.the-row ∷ u32 ∷ u32 ∷ []) (Ises (Plan-T.the-row ∷ u32 ∷ u32 ∷ [])) (SL.makes Plan-T.the-type Plan-L.the-plain 𝓤 H A, (uint-makes 𝓤 H A W w32, (uint-makes 𝓤 H A W w32, tt))) (plan, (value, (row′, tt))) (SL.val Plan-T.the-type Plan-L.the-laws plan ∷ [], (vint w32 value ∷ [], (vint w32 row′ ∷ [], tt))) (is-plan, ((refl, fit-value), ((refl, fit-row′), tt)))) (λ κs δ₀. tt) (λ κs δ₀. factI 𝓤 (Suits plan (length words) value × (row′ < plan .shape .rows)) (emp 𝓤) (call-1 words fences plan value row′ req))
         (λ r1 words1. (r1 ≡ flipAlter plan words value row′) × (words1 ≡ flipWords plan words value row′)) (λ κs δ₀ r1 ws. id⊢ 𝓤 _) (λ κs δ₀. (and-then ! (load ! (from ! (stop !)) (look ! 16 refl)) (and-then ! (load ! (from ! (stop !)) (look ! 26 refl)) (and-then ! (load ! (from ! (stop !)) (look ! 24 refl)) (and-then ! (load ! (from ! (stop !)) (look ! 22 refl)) (no-more !))))))
@@ -160,12 +161,12 @@ module _ {M : Type 1} (𝓤 : URA M) (H : Heap 𝓤) (A : Atoms 𝓤) (W : Given
         ]))))))))))))))))
 
 module _ {M : Type 1} (𝓤 : URA M) (H : Heap 𝓤) (A : Atoms 𝓤) (W : Given 𝓤 H A) (mem : Memory → SProp 𝓤) (run : Routine → Fun 𝓤) where
-  flip-fenced-walks : (𝓣 : Tables 𝓤 H) → Triple 𝓤 (𝓣 .C #steps·flip-value) (contractOf 𝓤 H A flip-value-F.ended (flip-value-F.clauses 𝓤 H A mem run)) → Triple 𝓤 (𝓣 .C #index·renew) (contractOf 𝓤 H A renew-F.ended (renew-F.clauses 𝓤 H A mem run)) → Walks 𝓤 H A flip-fenced-F.ended stayed (WpFn 𝓤 H (𝓣 .C) (𝓣 .Λ) code.function) (flip-fenced-F.clauses 𝓤 H A mem run)
+  flip-fenced-walks : (𝓣 : Tables 𝓤 H) → Triple 𝓤 (𝓣 .C #values·flip-value) (contractOf 𝓤 H A flip-value-F.ended (flip-value-F.clauses 𝓤 H A mem run)) → Triple 𝓤 (𝓣 .C #index·renew) (contractOf 𝓤 H A renew-F.ended (renew-F.clauses 𝓤 H A mem run)) → Walks 𝓤 H A flip-fenced-F.ended stayed (WpFn 𝓤 H (𝓣 .C) (𝓣 .Λ) code.function) (flip-fenced-F.clauses 𝓤 H A mem run)
   flip-fenced-walks 𝓣 known-flip-value known-renew =
       walked 𝓤 H A flip-fenced-F.ended stayed (flip-fenced-F.clauses 𝓤 H A mem run) (WpFn 𝓤 H (𝓣 .C) (𝓣 .Λ) code.function) (λ κs. (slice-vals, (slice-vals, (SL.vals Plan-T.the-type Plan-L.the-laws, (uint-vals w32, (uint-vals w32, tt)))))) (λ κs. (mut-slice-tells (named 0) (κs .0) u32, (mut-slice-tells (named 1) (κs .1 .0) Fence-T.the-row, (SL.tells Plan-T.the-type Plan-L.the-laws, (uint-tells w32, (uint-tells w32, tt))))))
       (λ κs qs bounds a g are. needs 𝓤 _ _ (walk 𝓤 H A W mem run (κs .0) (κs .1 .0) (qs .0) (qs .1 .0) (a .0 .ptr .0) (a .0 .ptr .1) (a .0 .name) (a .0 .now) (a .1 .0 .ptr .0) (a .1 .0 .ptr .1) (a .1 .0 .name) (a .1 .0 .now) (a .1 .1 .0) (a .1 .1 .1 .0) (a .1 .1 .1 .1 .0) 𝓣 (fmOf 𝓤 H (W .laws) 𝓣) known-flip-value known-renew (are .0 .0 .1) (are .1 .0 .0 .1) (are .1 .1 .0) (are .1 .1 .1 .0 .1) (are .1 .1 .1 .1 .0 .1)))
 
-flip-fenced-meets : {M : Type 1} (𝓤 : URA M) (H : Heap 𝓤) (A : Atoms 𝓤) (W : Given 𝓤 H A) (mem : Memory → SProp 𝓤) (run : Routine → Fun 𝓤) (𝓣 : Tables 𝓤 H) → Triple 𝓤 (𝓣 .C #steps·flip-value) (contractOf 𝓤 H A flip-value-F.ended (flip-value-F.clauses 𝓤 H A mem run)) → Triple 𝓤 (𝓣 .C #index·renew) (contractOf 𝓤 H A renew-F.ended (renew-F.clauses 𝓤 H A mem run)) → Meets 𝓤 H A flip-fenced-F.signature (WpFn 𝓤 H (𝓣 .C) (𝓣 .Λ) code.function) (flip-fenced-F.spec 𝓤 H A mem run)
+flip-fenced-meets : {M : Type 1} (𝓤 : URA M) (H : Heap 𝓤) (A : Atoms 𝓤) (W : Given 𝓤 H A) (mem : Memory → SProp 𝓤) (run : Routine → Fun 𝓤) (𝓣 : Tables 𝓤 H) → Triple 𝓤 (𝓣 .C #values·flip-value) (contractOf 𝓤 H A flip-value-F.ended (flip-value-F.clauses 𝓤 H A mem run)) → Triple 𝓤 (𝓣 .C #index·renew) (contractOf 𝓤 H A renew-F.ended (renew-F.clauses 𝓤 H A mem run)) → Meets 𝓤 H A flip-fenced-F.signature (WpFn 𝓤 H (𝓣 .C) (𝓣 .Λ) code.function) (flip-fenced-F.spec 𝓤 H A mem run)
 flip-fenced-meets 𝓤 H A W mem run 𝓣 known-flip-value known-renew =
     walk-meets 𝓤 H A flip-fenced-F.ended stayed W (goes-slice 𝓤 H A W 2 0 tt (plain (λ _. u32)), (goes-slice 𝓤 H A W 2 1 tt (plain (λ _. Fence-T.the-row)), (goes-dropped 𝓤 H A W 2 (plain (λ _. Plan-T.the-row)) yes (λ κs x f. refl), (goes-dropped 𝓤 H A W 2 (plain (λ _. u32)) yes (λ κs x f. refl), (goes-dropped 𝓤 H A W 2 (plain (λ _. u32)) yes (λ κs x f. refl), tt)))))
     (flip-fenced-F.clauses 𝓤 H A mem run) (WpFn 𝓤 H (𝓣 .C) (𝓣 .Λ) code.function) (WpFn-mono 𝓤 H (W .laws) 𝓣 code.function) (flip-fenced-walks 𝓤 H A W mem run 𝓣 known-flip-value known-renew)
@@ -176,5 +177,5 @@ flip-fenced-spec 𝓤 H 𝓜 𝓖 𝓡 =
     entered 𝓤 H (tripleOf 𝓤 H (𝓖 .A) flip-fenced-F.signature (flip-fenced-F.spec 𝓤 H (𝓖 .A) (𝓜 .mem) (𝓡 .run)))
     (tables 𝓤 H 𝓜 𝓡 code.env .C) (tables 𝓤 H 𝓜 𝓡 code.env .Λ) #index·flip-fenced code.function (code.unfolded 𝓤 H 𝓜 𝓡)
     (flip-fenced-meets 𝓤 H (𝓖 .A) (givenOf 𝓤 H 𝓜 𝓖) (𝓜 .mem) (𝓡 .run) (tablesOf 𝓤 H 𝓜 (tables 𝓤 H 𝓜 𝓡 code.env))
-    (cited 𝓤 H (tripleOf 𝓤 H (𝓖 .A) flip-value-F.signature (flip-value-F.spec 𝓤 H (𝓖 .A) (𝓜 .mem) (𝓡 .run))) 𝓜 𝓡 code.env #steps·flip-value flip-value-def.routine code.calls-steps·alter·flip-value (flip-value-thm.met 𝓤 H 𝓜 𝓖 𝓡))
+    (cited 𝓤 H (tripleOf 𝓤 H (𝓖 .A) flip-value-F.signature (flip-value-F.spec 𝓤 H (𝓖 .A) (𝓜 .mem) (𝓡 .run))) 𝓜 𝓡 code.env #values·flip-value flip-value-def.routine code.calls-values·alter·flip-value (flip-value-thm.met 𝓤 H 𝓜 𝓖 𝓡))
     (cited 𝓤 H (tripleOf 𝓤 H (𝓖 .A) renew-F.signature (renew-F.spec 𝓤 H (𝓖 .A) (𝓜 .mem) (𝓡 .run))) 𝓜 𝓡 code.env #index·renew renew-def.routine code.calls-index·fences·renew (renew-thm.met 𝓤 H 𝓜 𝓖 𝓡)))

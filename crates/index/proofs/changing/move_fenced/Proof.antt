@@ -40,13 +40,14 @@ use denote.Triple.Statement.{Triple}
 use denote.Triple.Table.{entered, cited}
 use denote.Triple.Walked.{says, needs, Stays, stay-slice, stay-dropped, walkOf, Walks, ends-at, walked, goes-slice, goes-dropped, walk-meets}
 use Rattle.blocks.specs.Block.{valueLength}
-use Rattle.steps.specs.Alter.{Fenced, blockIn, isWhole, moveWords, moveFences, renewedIf, Suits, moveAlter}
+use Rattle.values.specs.Alter.{isWhole, moveWords, moveFences, renewedIf, moveAlter}
+use Rattle.steps.specs.Plans.{Fenced, blockIn, Suits}
 use Rattle.index.proofs.changing.Steps.{move-refused, old-asks, new-asks, move-done}
 use Rattle.steps.specs.declared.header.Fence.{Fence}
 use Rattle.steps.proofs.header.Fence as Fence-T
-use Rattle.steps.proofs.alter.Move as Move-T
-use Rattle.steps.proofs.alter.Move.Laws as Move-L
-use Rattle.steps.specs.declared.alter.Move.the-variants.{Breaks, Moves}
+use Rattle.values.proofs.alter.Move as Move-T
+use Rattle.values.proofs.alter.Move.Laws as Move-L
+use Rattle.values.specs.declared.alter.Move.the-variants.{Breaks, Moves}
 use Rattle.steps.specs.declared.entry.Plan.{Plan}
 use Rattle.steps.proofs.entry.Plan as Plan-T
 use Rattle.steps.proofs.entry.Plan.Laws as Plan-L
@@ -54,10 +55,10 @@ use Rattle.answers.specs.declared.Refusal.{Refusal}
 use Rattle.walks.proofs.Lend.{ref}
 use Rattle.walks.proofs.Flow.{matches, frees-all}
 use Rattle.walks.proofs.Calls.{contractOf, calls-mut, calls-view-mut}
-use Rattle.steps.proofs.alter.move_row as move-row-F
-use Rattle.steps.proofs.alter.move_row.Symbol as move-row-def
-use Rattle.steps.proofs.alter.move_row.Symbol.{name as #steps·move-row}
-use Rattle.steps.proofs.alter.move_row.Met as move-row-thm
+use Rattle.values.proofs.alter.move_row as move-row-F
+use Rattle.values.proofs.alter.move_row.Symbol as move-row-def
+use Rattle.values.proofs.alter.move_row.Symbol.{name as #values·move-row}
+use Rattle.values.proofs.alter.move_row.Met as move-row-thm
 use Rattle.index.proofs.changing.renew_if as renew-if-F
 use Rattle.index.proofs.changing.renew_if.Symbol as renew-if-def
 use Rattle.index.proofs.changing.renew_if.Symbol.{name as #index·renew-if}
@@ -108,7 +109,7 @@ module _ {M : Type 1} (𝓤 : URA M) (H : Heap 𝓤) (A : Atoms 𝓤) (W : Given
       suffices ! _ (ends-at 𝓤 H A move-fenced-F.ended stayed (move-fenced-F.clauses 𝓤 H A mem run) W bound-of u r (words′, (fences′, (tt, (tt, (tt, (tt, tt)))))) (n-words′, (n-fences′, (tt, (tt, (tt, (tt, tt))))))) $ says ! e $
       nothing ! $ move ! (3 ∷ 0 ∷ []) $ join ! $ move ! (1 ∷ 0 ∷ []) $ join ! $ frame ! $ nothing ! $ nothing ! $ fjoin ! $ nothing ! $ fjoin ! $ nothing ! $ fjoin ! $ nothing ! $ fjoin ! $ move ! (2 ∷ 0 ∷ []) $ fjoin ! $ move ! (1 ∷ 0 ∷ []) $ fjoin ! $ frame ! $ owned ! Boolean (Is Boolean) (bool-makes 𝓤 H A W) r _ is $ done !
 
-  module _ (𝓣 : Tables 𝓤 H) (fm : FmC 𝓤 H (W .laws) (𝓣 .C)) (known-move-row : Triple 𝓤 (𝓣 .C #steps·move-row) (contractOf 𝓤 H A move-row-F.ended (move-row-F.clauses 𝓤 H A mem run))) (known-renew-if : Triple 𝓤 (𝓣 .C #index·renew-if) (contractOf 𝓤 H A renew-if-F.ended (renew-if-F.clauses 𝓤 H A mem run))) where
+  module _ (𝓣 : Tables 𝓤 H) (fm : FmC 𝓤 H (W .laws) (𝓣 .C)) (known-move-row : Triple 𝓤 (𝓣 .C #values·move-row) (contractOf 𝓤 H A move-row-F.ended (move-row-F.clauses 𝓤 H A mem run))) (known-renew-if : Triple 𝓤 (𝓣 .C #index·renew-if) (contractOf 𝓤 H A renew-if-F.ended (renew-if-F.clauses 𝓤 H A mem run))) where
     walk : Room u32 (length words) → Room Fence-T.the-row (length fences) → Is Plan-T.the-row plan (SL.vals Plan-T.the-type Plan-L.the-laws plan) → old < 2 ^ 32 → new < 2 ^ 32 → row′ < 2 ^ 32 → Fenced plan (length words) (length fences) old × Fenced plan (length words) (length fences) new × (old ≡ new → ⊥) × (row′ < plan .shape .rows) → ent 𝓤 (onEntry 𝓤 H A move-fenced-F.signature (κ₀, (κ₁, tt)) (q₀, (q₁, tt)) args-of vals-of) (WpFn 𝓤 H (𝓣 .C) (𝓣 .Λ) code.function (sliceVal (b₀, o₀) (length words) ∷ sliceVal (b₁, o₁) (length fences) ∷ SL.val Plan-T.the-type Plan-L.the-laws plan ∷ vint w32 old ∷ vint w32 new ∷ vint w32 row′ ∷ []) Post)
     walk room-words room-fences is-plan fit-old fit-new fit-row′ req =
         qed W ((‵ (flft κ₀ q₀) ⊛ (‵ (flft κ₁ q₁) ⊛ ‵ ftrue)) ∷ ‵ (owns (MutSlice (named 0) κ₀ u32 ∷ MutSlice (named 1) κ₁ Fence-T.the-row ∷ Plan-T.the-row ∷ u32 ∷ u32 ∷ u32 ∷ []) args-of vals-of) ∷ []) ∵ enter ! (𝓣 .C) (𝓣 .Λ) code.function (sliceVal (b₀, o₀) (length words) ∷ sliceVal (b₁, o₁) (length fences) ∷ SL.val Plan-T.the-type Plan-L.the-laws plan ∷ vint w32 old ∷ vint w32 new ∷ vint w32 row′ ∷ []) _ $
@@ -118,7 +119,7 @@ module _ {M : Type 1} (𝓤 : URA M) (H : Heap 𝓤) (A : Atoms 𝓤) (W : Given
         -- [words's token; words; fences's token; fences; _21; …; _0; …]
         assigns ! (addr ! (from ! (fld ! refl (hop ! (look-in ! 44 (sub ! 0 refl (whole !))) (stop !))))) (from ! (stop !)) (init ! 26 refl (tt, tt)) $
         assigns ! (agg ! (and-then ! (load ! (from ! (stop !)) (look ! 26 refl)) (and-then ! (load ! (from ! (fld ! refl (stop !))) (look-in ! 44 (sub ! 1 refl (whole !)))) (no-more !)))) (from ! (stop !)) (init ! 24 refl (tt, (tt, (record { fits = room-words .0 }, tt)))) $
-        -- steps::alter::move_row
+        -- values::alter::move_row
         calls-mut ! fm u32 Move-T.the-row (plain (λ _. Plan-T.the-row) ∷ plain (λ _. u32) ∷ plain (λ _. u32) ∷ plain (λ _. u32) ∷ []) (yes, (yes, (yes, (yes, tt)))) (move-row-F.clauses 𝓤 H A mem run) known-move-row b₀ o₀ γ₀ words (length words) refl
         (λ κs. (plan, (old, (new, (row′, tt))))) (λ κs. (SL.val Plan-T.the-type Plan-L.the-laws plan ∷ [], (vint w32 old ∷ [], (vint w32 new ∷ [], (vint w32 row′ ∷ [], tt))))) (λ κs. owns-make 𝓤 H A (Plan-T.the-row ∷ u32 ∷ u32 ∷ u32 ∷ []) (Ises (Plan-T.the-row ∷ u32 ∷ u32 ∷ u32 ∷ [])) (SL.makes Plan-T.the-type Plan-L.the-plain 𝓤 H A, (uint-makes 𝓤 H A W w32, (uint-makes 𝓤 H A W w32, (uint-makes 𝓤 H A W w32, tt)))) (plan, (old, (new, (row′, tt)))) (SL.val Plan-T.the-type Plan-L.the-laws plan ∷ [], (vint w32 old ∷ [], (vint w32 new ∷ [], (vint w32 row′ ∷ [], tt)))) (is-plan, ((refl, fit-old), ((refl, fit-new), ((refl, fit-row′), tt))))) (λ κs δ₀. tt) (λ κs δ₀. factI 𝓤 (Suits plan (length words) old × Suits plan (length words) new × (old ≡ new → ⊥) × (row′ < plan .shape .rows)) (emp 𝓤) (call-1 words fences plan old new row′ req))
         (λ r1 words1. (r1 ≡ moveAlter plan words old new row′) × (words1 ≡ moveWords plan words old new row′)) (λ κs δ₀ r1 ws. id⊢ 𝓤 _) (λ κs δ₀. (and-then ! (load ! (from ! (stop !)) (look ! 24 refl)) (and-then ! (load ! (from ! (stop !)) (look ! 40 refl)) (and-then ! (load ! (from ! (stop !)) (look ! 38 refl)) (and-then ! (load ! (from ! (stop !)) (look ! 36 refl)) (and-then ! (load ! (from ! (stop !)) (look ! 34 refl)) (no-more !)))))))
@@ -164,12 +165,12 @@ module _ {M : Type 1} (𝓤 : URA M) (H : Heap 𝓤) (A : Atoms 𝓤) (W : Given
         ])))))))))))))))))))))))
 
 module _ {M : Type 1} (𝓤 : URA M) (H : Heap 𝓤) (A : Atoms 𝓤) (W : Given 𝓤 H A) (mem : Memory → SProp 𝓤) (run : Routine → Fun 𝓤) where
-  move-fenced-walks : (𝓣 : Tables 𝓤 H) → Triple 𝓤 (𝓣 .C #steps·move-row) (contractOf 𝓤 H A move-row-F.ended (move-row-F.clauses 𝓤 H A mem run)) → Triple 𝓤 (𝓣 .C #index·renew-if) (contractOf 𝓤 H A renew-if-F.ended (renew-if-F.clauses 𝓤 H A mem run)) → Walks 𝓤 H A move-fenced-F.ended stayed (WpFn 𝓤 H (𝓣 .C) (𝓣 .Λ) code.function) (move-fenced-F.clauses 𝓤 H A mem run)
+  move-fenced-walks : (𝓣 : Tables 𝓤 H) → Triple 𝓤 (𝓣 .C #values·move-row) (contractOf 𝓤 H A move-row-F.ended (move-row-F.clauses 𝓤 H A mem run)) → Triple 𝓤 (𝓣 .C #index·renew-if) (contractOf 𝓤 H A renew-if-F.ended (renew-if-F.clauses 𝓤 H A mem run)) → Walks 𝓤 H A move-fenced-F.ended stayed (WpFn 𝓤 H (𝓣 .C) (𝓣 .Λ) code.function) (move-fenced-F.clauses 𝓤 H A mem run)
   move-fenced-walks 𝓣 known-move-row known-renew-if =
       walked 𝓤 H A move-fenced-F.ended stayed (move-fenced-F.clauses 𝓤 H A mem run) (WpFn 𝓤 H (𝓣 .C) (𝓣 .Λ) code.function) (λ κs. (slice-vals, (slice-vals, (SL.vals Plan-T.the-type Plan-L.the-laws, (uint-vals w32, (uint-vals w32, (uint-vals w32, tt))))))) (λ κs. (mut-slice-tells (named 0) (κs .0) u32, (mut-slice-tells (named 1) (κs .1 .0) Fence-T.the-row, (SL.tells Plan-T.the-type Plan-L.the-laws, (uint-tells w32, (uint-tells w32, (uint-tells w32, tt)))))))
       (λ κs qs bounds a g are. needs 𝓤 _ _ (walk 𝓤 H A W mem run (κs .0) (κs .1 .0) (qs .0) (qs .1 .0) (a .0 .ptr .0) (a .0 .ptr .1) (a .0 .name) (a .0 .now) (a .1 .0 .ptr .0) (a .1 .0 .ptr .1) (a .1 .0 .name) (a .1 .0 .now) (a .1 .1 .0) (a .1 .1 .1 .0) (a .1 .1 .1 .1 .0) (a .1 .1 .1 .1 .1 .0) 𝓣 (fmOf 𝓤 H (W .laws) 𝓣) known-move-row known-renew-if (are .0 .0 .1) (are .1 .0 .0 .1) (are .1 .1 .0) (are .1 .1 .1 .0 .1) (are .1 .1 .1 .1 .0 .1) (are .1 .1 .1 .1 .1 .0 .1)))
 
-move-fenced-meets : {M : Type 1} (𝓤 : URA M) (H : Heap 𝓤) (A : Atoms 𝓤) (W : Given 𝓤 H A) (mem : Memory → SProp 𝓤) (run : Routine → Fun 𝓤) (𝓣 : Tables 𝓤 H) → Triple 𝓤 (𝓣 .C #steps·move-row) (contractOf 𝓤 H A move-row-F.ended (move-row-F.clauses 𝓤 H A mem run)) → Triple 𝓤 (𝓣 .C #index·renew-if) (contractOf 𝓤 H A renew-if-F.ended (renew-if-F.clauses 𝓤 H A mem run)) → Meets 𝓤 H A move-fenced-F.signature (WpFn 𝓤 H (𝓣 .C) (𝓣 .Λ) code.function) (move-fenced-F.spec 𝓤 H A mem run)
+move-fenced-meets : {M : Type 1} (𝓤 : URA M) (H : Heap 𝓤) (A : Atoms 𝓤) (W : Given 𝓤 H A) (mem : Memory → SProp 𝓤) (run : Routine → Fun 𝓤) (𝓣 : Tables 𝓤 H) → Triple 𝓤 (𝓣 .C #values·move-row) (contractOf 𝓤 H A move-row-F.ended (move-row-F.clauses 𝓤 H A mem run)) → Triple 𝓤 (𝓣 .C #index·renew-if) (contractOf 𝓤 H A renew-if-F.ended (renew-if-F.clauses 𝓤 H A mem run)) → Meets 𝓤 H A move-fenced-F.signature (WpFn 𝓤 H (𝓣 .C) (𝓣 .Λ) code.function) (move-fenced-F.spec 𝓤 H A mem run)
 move-fenced-meets 𝓤 H A W mem run 𝓣 known-move-row known-renew-if =
     walk-meets 𝓤 H A move-fenced-F.ended stayed W (goes-slice 𝓤 H A W 2 0 tt (plain (λ _. u32)), (goes-slice 𝓤 H A W 2 1 tt (plain (λ _. Fence-T.the-row)), (goes-dropped 𝓤 H A W 2 (plain (λ _. Plan-T.the-row)) yes (λ κs x f. refl), (goes-dropped 𝓤 H A W 2 (plain (λ _. u32)) yes (λ κs x f. refl), (goes-dropped 𝓤 H A W 2 (plain (λ _. u32)) yes (λ κs x f. refl), (goes-dropped 𝓤 H A W 2 (plain (λ _. u32)) yes (λ κs x f. refl), tt))))))
     (move-fenced-F.clauses 𝓤 H A mem run) (WpFn 𝓤 H (𝓣 .C) (𝓣 .Λ) code.function) (WpFn-mono 𝓤 H (W .laws) 𝓣 code.function) (move-fenced-walks 𝓤 H A W mem run 𝓣 known-move-row known-renew-if)
@@ -180,5 +181,5 @@ move-fenced-spec 𝓤 H 𝓜 𝓖 𝓡 =
     entered 𝓤 H (tripleOf 𝓤 H (𝓖 .A) move-fenced-F.signature (move-fenced-F.spec 𝓤 H (𝓖 .A) (𝓜 .mem) (𝓡 .run)))
     (tables 𝓤 H 𝓜 𝓡 code.env .C) (tables 𝓤 H 𝓜 𝓡 code.env .Λ) #index·move-fenced code.function (code.unfolded 𝓤 H 𝓜 𝓡)
     (move-fenced-meets 𝓤 H (𝓖 .A) (givenOf 𝓤 H 𝓜 𝓖) (𝓜 .mem) (𝓡 .run) (tablesOf 𝓤 H 𝓜 (tables 𝓤 H 𝓜 𝓡 code.env))
-    (cited 𝓤 H (tripleOf 𝓤 H (𝓖 .A) move-row-F.signature (move-row-F.spec 𝓤 H (𝓖 .A) (𝓜 .mem) (𝓡 .run))) 𝓜 𝓡 code.env #steps·move-row move-row-def.routine code.calls-steps·alter·move-row (move-row-thm.met 𝓤 H 𝓜 𝓖 𝓡))
+    (cited 𝓤 H (tripleOf 𝓤 H (𝓖 .A) move-row-F.signature (move-row-F.spec 𝓤 H (𝓖 .A) (𝓜 .mem) (𝓡 .run))) 𝓜 𝓡 code.env #values·move-row move-row-def.routine code.calls-values·alter·move-row (move-row-thm.met 𝓤 H 𝓜 𝓖 𝓡))
     (cited 𝓤 H (tripleOf 𝓤 H (𝓖 .A) renew-if-F.signature (renew-if-F.spec 𝓤 H (𝓖 .A) (𝓜 .mem) (𝓡 .run))) 𝓜 𝓡 code.env #index·renew-if renew-if-def.routine code.calls-index·changing·renew-if (renew-if-thm.met 𝓤 H 𝓜 𝓖 𝓡)))

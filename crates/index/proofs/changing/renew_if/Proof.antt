@@ -38,7 +38,8 @@ use denote.Triple.Statement.{Triple}
 use denote.Triple.Table.{entered, cited}
 use denote.Triple.Walked.{says, needs, Stays, stay-slice, stay-dropped, walkOf, Walks, ends-at, walked, goes-slice, goes-dropped, walk-meets}
 use Rattle.blocks.specs.Block.{valueLength}
-use Rattle.steps.specs.Alter.{Fenced, blockIn, renewedIf, renewedFences}
+use Rattle.values.specs.Alter.{renewedIf, renewedFences}
+use Rattle.steps.specs.Plans.{Fenced, blockIn}
 use Rattle.steps.specs.declared.header.Fence.{Fence}
 use Rattle.steps.proofs.header.Fence as Fence-T
 use Rattle.steps.specs.declared.entry.Plan.{Plan}

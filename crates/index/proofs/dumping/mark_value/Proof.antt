@@ -45,7 +45,7 @@ use Rattle.steps.specs.Entry.{Planned}
 use Rattle.steps.specs.Memory.{memoryOf}
 use Rattle.index.proofs.dumping.Turns.{count-asks, FencesSeen, none-visited, first-fits, fence-fits, fence-asks, fence-seen, fence-damaged, all-visited}
 use Rattle.groups.specs.Rows.{rowLimit}
-use Rattle.steps.specs.Alter.{Suits, blockIn}
+use Rattle.steps.specs.Plans.{Suits, blockIn}
 use Rattle.steps.specs.Fences.{noFence}
 use Rattle.steps.specs.declared.header.Fence.{Fence}
 use Rattle.steps.proofs.header.Fence as Fence-T

@@ -42,7 +42,7 @@ use denote.Triple.Table.{entered, cited}
 use denote.Triple.Walked.{says, needs, Stays, stay-dropped, walkOf, Walks, ends-at, walked, goes-dropped, walk-meets}
 use Rattle.blocks.specs.Shape.{fenceCount}
 use Rattle.blocks.specs.Block.{part, valueLength}
-use Rattle.steps.specs.Alter.{Fenced, blockIn, listIn, Suits}
+use Rattle.steps.specs.Plans.{Fenced, blockIn, listIn, Suits}
 use Rattle.steps.specs.Fences.{noFence, rightFences, isFence, fenceBefore}
 use Rattle.index.proofs.fences.Turns.{fence-fits, first-fits, below, goes-on, RightTo, none-wrong, right-so-far, wrong-here, all-compared}
 use Rattle.blocks.specs.Fences.{cursorAt, fenceAt}

@@ -41,7 +41,8 @@ use denote.Triple.Table.{entered, cited}
 use denote.Triple.Walked.{says, needs, Stays, stay-slice, stay-dropped, walkOf, Walks, ends-at, walked, goes-slice, goes-dropped, walk-meets}
 use Rattle.blocks.specs.Shape.{fenceCount}
 use Rattle.blocks.specs.Block.{valueLength}
-use Rattle.steps.specs.Alter.{Fenced, blockIn, listIn, renewedFences, Suits}
+use Rattle.values.specs.Alter.{renewedFences}
+use Rattle.steps.specs.Plans.{Fenced, blockIn, listIn, Suits}
 use Rattle.steps.specs.Fences.{fence, fenceBefore}
 use Rattle.index.proofs.fences.Turns.{fence-inside, fence-fits, first-fits, below, goes-on, madeTo, none-made, makes, all-made}
 use Rattle.blocks.specs.Fences.{cursorAt, fenceAt}

@@ -45,7 +45,8 @@ use Rattle.index.specs.Calls.{loadedIn}
 use Rattle.index.proofs.loading.Turns.{loadedTo, load-asks, words-done, renew-asks, renews}
 use Rattle.columns.specs.Spread.{Blocks, loadedWords}
 use Rattle.blocks.specs.Block.{valueLength}
-use Rattle.steps.specs.Alter.{Fenced, blockIn, renewedFences}
+use Rattle.values.specs.Alter.{renewedFences}
+use Rattle.steps.specs.Plans.{Fenced, blockIn}
 use Rattle.steps.specs.declared.header.Fence.{Fence}
 use Rattle.steps.proofs.header.Fence as Fence-T
 use Rattle.steps.specs.declared.header.Header.{Header}

@@ -43,7 +43,7 @@ use Rattle.steps.specs.Entry.{Planned}
 use Rattle.steps.specs.Memory.{memoryOf}
 use Rattle.steps.specs.Reading.{rowOf, readRow, noRow, rowStep}
 use Rattle.index.proofs.reading.Turns.{some-spacing, place-fits, nearest-fits, may-read, reads, all-read}
-use Rattle.steps.specs.Alter.{Suits, blockIn}
+use Rattle.steps.specs.Plans.{Suits, blockIn}
 use Rattle.blocks.specs.Read.{readGroup}
 use Rattle.steps.specs.Fences.{noFence}
 use Rattle.steps.specs.declared.header.Fence.{Fence}

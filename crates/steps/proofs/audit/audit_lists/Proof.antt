@@ -9,8 +9,8 @@ use Rattle.audits.specs.Audit.{soundLists}
 use Rattle.blocks.specs.Block.{part}
 use Rattle.blocks.specs.Shape.{blockSize}
 use Rattle.audits.proofs.SoundLists.{sound-parts}
-use Rattle.steps.specs.Alter.{blockIn}
-use Rattle.steps.proofs.Altering.{inside}
+use Rattle.steps.specs.Plans.{blockIn}
+use Rattle.steps.proofs.Plans.{inside}
 use Rattle.steps.proofs.audit.audit_lists.Statement.{statement}
 use Rattle.steps.proofs.audit.audit_lists.Tie as tie
 

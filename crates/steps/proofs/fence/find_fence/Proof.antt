@@ -9,8 +9,8 @@ use Rattle.blocks.specs.Fences.{locateFrom}
 use Rattle.blocks.specs.declared.fence.Cursor.{Cursor}
 use Rattle.blocks.proofs.FenceLaws.{Stands, stands-place}
 use Rattle.blocks.proofs.Sizes.{few-groups, few-fences, fence-group}
-use Rattle.steps.specs.Alter.{blockIn, listIn}
-use Rattle.steps.proofs.Altering.{inside}
+use Rattle.steps.specs.Plans.{blockIn, listIn}
+use Rattle.steps.proofs.Plans.{inside}
 use Rattle.steps.proofs.FenceRecords.{before-stands, before-finds}
 use Rattle.steps.proofs.fence.find_fence.Statement.{statement}
 use Rattle.steps.proofs.fence.find_fence.Tie as tie

@@ -7,8 +7,8 @@ use Rattle.blocks.specs.Block.{part}
 use Rattle.blocks.specs.Read.{readGroup}
 use Rattle.blocks.specs.Shape.{blockSize}
 use Rattle.blocks.proofs.Readings.{group-says}
-use Rattle.steps.specs.Alter.{blockIn}
-use Rattle.steps.proofs.Altering.{inside}
+use Rattle.steps.specs.Plans.{blockIn}
+use Rattle.steps.proofs.Plans.{inside}
 use Rattle.steps.proofs.RowLaws.{step-clear, step-set}
 use Rattle.steps.proofs.row.row_step.Statement.{statement}
 use Rattle.steps.proofs.row.row_step.Tie as tie

@@ -14,10 +14,10 @@ use lib.Seq.{drop-cons}
 use borrow.Author.Tests.{lt-ltb, le-ltb, eq-eqb, ne-eqb}
 use Rattle.words.specs.Words.{span}
 use Rattle.words.proofs.Forms.{runAt}
-use Rattle.lists.specs.Walk.{walk, walkTo}
-use Rattle.lists.specs.declared.walk.Covering.{Covering}
-use Rattle.lists.specs.declared.walk.Walk.{Walk}
-use Rattle.lists.specs.declared.walk.Walk.the-variants.{Covered, Damaged}
+use Rattle.reads.specs.Walk.{walk, walkTo}
+use Rattle.reads.specs.declared.walk.Covering.{Covering}
+use Rattle.reads.specs.declared.walk.Walk.{Walk}
+use Rattle.reads.specs.declared.walk.Walk.the-variants.{Covered, Damaged}
 
 -- the walk from place i on, when i words have been opened
 abbrev pub walkFrom : List ℕ → ℕ → ℕ → ℕ → Walk

@@ -4,17 +4,18 @@ ghost use mathlib.Core.Path.{_≡_};
 ghost use Prim.Native.Nat.{_<_};
 ghost use lib.ListN.{length};
 ghost use Rattle.answers.specs.Outcome.{Gives};
 ghost use Rattle.values.specs.Change.{flipOf};
-ghost use Rattle.steps.specs.Alter.{Suits, mergeAlter, mergeWords, flipAlter, flipWords, moveAlter, moveWords, queryValue};
-use crate::entry::Plan;
+ghost use Rattle.values.specs.Alter.{mergeAlter, mergeWords, flipAlter, flipWords, moveAlter, moveWords, queryValue};
+ghost use Rattle.steps.specs.Plans.{Suits};
+use steps::entry::Plan;
 use answers::Answer;
 use answers::Refusal;
 use blocks::whole::Lists;
 use blocks::whole::check_lists;
-use values::change::Flipped;
-use values::change::flip;
-use values::change::merge;
-use values::current::list_current;
+use crate::change::Flipped;
+use crate::change::flip;
+use crate::change::merge;
+use crate::current::list_current;
 
 // What came of a change: refused, or done with fences kept or to be made anew.
 pub enum Alter {

@@ -4,9 +4,10 @@ use mathlib.Core.Bool.{true, false, _&&_, and-eq-true-iff}
 use mathlib.Core.List.{List}
 use Prim.Native.Nat.{ℕ, _<_}
 use lib.ListN.{length}
-use Rattle.steps.specs.Alter.{Suits, blockIn, isWhole, flipWords, moveWords}
+use Rattle.values.specs.Alter.{isWhole, flipWords, moveWords}
+use Rattle.steps.specs.Plans.{Suits, blockIn}
 use Rattle.steps.specs.declared.entry.Plan.{Plan}
-use Rattle.steps.proofs.Altering.{flippedBlock, flip-put, either, OnlyBlock, flippedBlock-whole, flip-block, flip-only}
+use Rattle.values.proofs.Altering.{flippedBlock, flip-put, either, OnlyBlock, flippedBlock-whole, flip-block, flip-only}
 
 -- the words left differ from those there were in the blocks of two values alone
 pub record OnlyBlocks (plan : Plan) (old new : ℕ) (words left : List ℕ) : Type 0 where

@@ -4,16 +4,17 @@ use mathlib.Core.Bool.{Bool, true}
 use mathlib.Core.List.{List}
 use Prim.Native.Nat.{ℕ, _<_}
 use lib.ListN.{length}
 use Rattle.values.specs.Change.{mergeDue, flipOf}
 use Rattle.values.specs.declared.change.Flipped.{Flipped}
 use Rattle.blocks.specs.declared.whole.Lists.{Lists}
 use Rattle.blocks.specs.declared.whole.Lists.the-variants.{Intact}
-use Rattle.steps.specs.Alter.{Suits, blockIn, isWhole, flipWords, moveAlter, moveWords}
+use Rattle.values.specs.Alter.{isWhole, flipWords, moveAlter, moveWords}
+use Rattle.steps.specs.Plans.{Suits, blockIn}
 use Rattle.steps.specs.declared.entry.Plan.{Plan}
-use Rattle.steps.specs.declared.alter.Move.the-variants.{Moves}
-use Rattle.steps.proofs.Altering.{OnlyBlock, flip-only}
-use Rattle.steps.proofs.alter.Exits.{Checked, Flips, is-whole, flip-words, flip-due}
-use Rattle.steps.proofs.alter.Moving.{move-flips}
+use Rattle.values.specs.declared.alter.Move.the-variants.{Moves}
+use Rattle.values.proofs.Altering.{OnlyBlock, flip-only}
+use Rattle.values.proofs.alter.Exits.{Checked, Flips, is-whole, flip-words, flip-due}
+use Rattle.values.proofs.alter.Moving.{move-flips}
 
 -- where the code stands between the two flips: `half` are the words, and `found` is what the check found of the new value
 pub record Half (plan : Plan) (words : List ℕ) (old new row : ℕ) (found : Lists) (half : List ℕ) : Type 0 where

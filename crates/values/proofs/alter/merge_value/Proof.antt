@@ -1,10 +1,10 @@
 -- `merge_value` merges the lists that the whole check finds intact, and refuses others.
 use native.Mathlib.Omega.{arith}
 use borrow.Author.Needs.{needs}
-use Rattle.steps.proofs.Altering.{inside}
-use Rattle.steps.proofs.alter.Exits.{Checked, merge-refused, may-change, merge-done}
-use Rattle.steps.proofs.alter.merge_value.Statement.{statement}
-use Rattle.steps.proofs.alter.merge_value.Tie as tie
+use Rattle.steps.proofs.Plans.{inside}
+use Rattle.values.proofs.alter.Exits.{Checked, merge-refused, may-change, merge-done}
+use Rattle.values.proofs.alter.merge_value.Statement.{statement}
+use Rattle.values.proofs.alter.merge_value.Tie as tie
 
 -- the check has been made
 abbrev start : tie.After-check-lists → tie.Start

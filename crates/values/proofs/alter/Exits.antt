@@ -11,16 +11,18 @@ use Rattle.answers.specs.declared.Refusal.the-variants.{Damaged}
 use Rattle.blocks.specs.Shape.{Limits, blockSize}
 use Rattle.blocks.specs.Block.{part, write}
 use Rattle.blocks.specs.Whole.{updateOnes, wholeLists, wholeOf}
 use Rattle.values.specs.Query.{listOutcome}
 use Rattle.values.specs.Change.{merged, mergeDue, flipped, flipOf}
 use Rattle.values.specs.declared.change.Flipped.{Flipped}
 use Rattle.blocks.specs.declared.whole.Lists.{Lists}
 use Rattle.blocks.specs.declared.whole.Lists.the-variants.{Intact, Faulty}
-use Rattle.steps.specs.Alter.{Suits, blockIn, isWhole, mergeAlter, mergeWords, flipAlter, flipWords, moveAlter, moveWords, queryValue}
+use Rattle.values.specs.Alter.{isWhole, mergeAlter, mergeWords, flipAlter, flipWords, moveAlter, moveWords, queryValue}
+use Rattle.steps.specs.Plans.{Suits, blockIn}
 use Rattle.steps.specs.declared.entry.Plan.{Plan}
-use Rattle.steps.specs.declared.alter.Alter.the-variants.{Fails, Keeps, Renews}
-use Rattle.steps.specs.declared.alter.Move.the-variants.{Breaks}
-use Rattle.steps.proofs.Altering.{inside, merge-put, merge-kept, flip-put, flip-kept}
+use Rattle.values.specs.declared.alter.Alter.the-variants.{Fails, Keeps, Renews}
+use Rattle.values.specs.declared.alter.Move.the-variants.{Breaks}
+use Rattle.steps.proofs.Plans.{inside}
+use Rattle.values.proofs.Altering.{merge-put, merge-kept, flip-put, flip-kept}
 use Rattle.blocks.proofs.whole.Verdict.{faulty-whole, intact-whole, intact-ones}
 
 -- the block of a value at its place as the code has it, which multiplies by `plan.block`

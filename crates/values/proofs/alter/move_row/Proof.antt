@@ -1,11 +1,11 @@
 -- `move_row` flips the row in both values where the whole check finds the lists of both intact. The first flip leaves the second value's block as it was.
 use native.Mathlib.Omega.{arith}
 use borrow.Author.Needs.{needs}
-use Rattle.steps.proofs.Altering.{inside}
-use Rattle.steps.proofs.alter.Exits.{Checked, old-refused, new-refused, is-whole, may-flip, flip-words, flip-due}
-use Rattle.steps.proofs.alter.Halfway.{Half, still-checked, move-done}
-use Rattle.steps.proofs.alter.move_row.Statement.{statement}
-use Rattle.steps.proofs.alter.move_row.Tie as tie
+use Rattle.steps.proofs.Plans.{inside}
+use Rattle.values.proofs.alter.Exits.{Checked, old-refused, new-refused, is-whole, may-flip, flip-words, flip-due}
+use Rattle.values.proofs.alter.Halfway.{Half, still-checked, move-done}
+use Rattle.values.proofs.alter.move_row.Statement.{statement}
+use Rattle.values.proofs.alter.move_row.Tie as tie
 
 -- the old value has been checked
 abbrev start : tie.After-check-lists → tie.Start

@@ -3,22 +3,19 @@
 use mathlib.Core.Path.{_≡_, refl}
 use mathlib.Core.Bool.{Bool, true, false}
 use mathlib.Core.List.{List}
-use Prim.Native.Nat.{ℕ, _+_, _*_, _<_, _≤_}
+use Prim.Native.Nat.{ℕ, _*_, _<_}
 use lib.ListN.{length}
 use Rattle.blocks.specs.Shape.{blockSize}
 use Rattle.blocks.specs.Whole.{wholeLists}
 use Rattle.values.specs.Change.{merged, flipped}
 use Rattle.blocks.proofs.Blocks.{block-written, block-apart}
 use Rattle.values.proofs.Flipping.{length-flipped, whole-flipped}
 use Rattle.values.proofs.Merging.{length-merged, whole-merged}
 use Rattle.blocks.proofs.Parts.{length-part, length-write}
 use Rattle.blocks.proofs.Sizes.{places-apart}
-use Rattle.steps.specs.Alter.{Suits, blockIn, putBlock, isWhole, mergeWords, flipWords}
+use Rattle.values.specs.Alter.{putBlock, isWhole, mergeWords, flipWords}
+use Rattle.steps.specs.Plans.{Suits, blockIn}
 use Rattle.steps.specs.declared.entry.Plan.{Plan}
-
--- the block lies inside the words at its place as the code has it, which multiplies by `plan.block`
-pub inside : {plan : Plan} {words value : ℕ} → Suits plan words value → value * plan .block + blockSize (plan .shape) ≤ words
-inside suits = rw (suits .block) (suits .inside)
 
 -- ---- a change is made where the lists are whole, and nowhere else
 

@@ -1,10 +1,10 @@
 -- `query_value` writes the list of a value whose lists the whole check finds intact, and refuses others.
 use native.Mathlib.Omega.{arith}
 use borrow.Author.Needs.{needs}
-use Rattle.steps.proofs.Altering.{inside}
-use Rattle.steps.proofs.alter.Exits.{Checked, query-refused, may-change, query-done}
-use Rattle.steps.proofs.alter.query_value.Statement.{statement}
-use Rattle.steps.proofs.alter.query_value.Tie as tie
+use Rattle.steps.proofs.Plans.{inside}
+use Rattle.values.proofs.alter.Exits.{Checked, query-refused, may-change, query-done}
+use Rattle.values.proofs.alter.query_value.Statement.{statement}
+use Rattle.values.proofs.alter.query_value.Tie as tie
 
 -- the check has been made
 abbrev start : tie.After-check-lists → tie.Start

@@ -1,44 +1,24 @@
 -- Changes and queries of one value of an index, given its sizes: behind the whole check of the lists that they touch.
-use mathlib.Core.Path.{_≡_}
 use mathlib.Core.Bool.{Bool, not, cond, _&&_}
 use mathlib.Core.List.{List, [], _∷_}
-use Prim.Native.Nat.{ℕ, _+_, _*_, _≤_}
+use Prim.Native.Nat.{ℕ, _*_}
 use lib.Dec.{ltb}
 use lib.ListN.{length}
 use Rattle.answers.specs.Outcome.{_when_, Outcome, outcome}
 use Rattle.answers.specs.declared.Refusal.the-variants.{Damaged, OutSmall}
 use Rattle.words.specs.Words.{encode}
-use Rattle.blocks.specs.Shape.{Limits, blockSize, fenceCount}
-use Rattle.blocks.specs.Block.{part, write, valueList, current}
+use Rattle.blocks.specs.Shape.{blockSize, fenceCount}
+use Rattle.blocks.specs.Block.{write, current}
 use Rattle.blocks.specs.Whole.{wholeLists}
 use Rattle.values.specs.Change.{merged, mergeDue, flipped}
 use Rattle.steps.specs.Fences.{fencesFrom}
+use Rattle.steps.specs.Plans.{blockIn, listIn}
 use Rattle.steps.specs.declared.header.Fence.{Fence}
 use Rattle.steps.specs.declared.entry.Plan.{Plan}
-use Rattle.steps.specs.declared.alter.Alter.{Alter}
-use Rattle.steps.specs.declared.alter.Alter.the-variants.{Fails, Keeps, Renews}
-use Rattle.steps.specs.declared.alter.Move.{Move}
-use Rattle.steps.specs.declared.alter.Move.the-variants.{Breaks, Moves}
-
--- the sizes are those of a header within its limits, and the value's block lies inside so many words
-pub record Suits (plan : Plan) (words value : ℕ) : Type 0 where
-  pub limits : Limits (plan .shape)
-  pub block : plan .block ≡ blockSize (plan .shape)
-  pub fences : plan .fences ≡ fenceCount (plan .shape)
-  pub inside : value * blockSize (plan .shape) + blockSize (plan .shape) ≤ words
-
--- and its fences lie inside so many records
-pub record Fenced (plan : Plan) (words fences value : ℕ) : Type 0 where
-  pub suits : Suits plan words value
-  pub room : value * fenceCount (plan .shape) + fenceCount (plan .shape) ≤ fences
-
--- the block of a value
-abbrev pub blockIn : Plan → List ℕ → ℕ → List ℕ
-blockIn plan words value = part words (value * blockSize (plan .shape)) (blockSize (plan .shape))
-
--- the value list of a value
-abbrev pub listIn : Plan → List ℕ → ℕ → List ℕ
-listIn plan words value = valueList (plan .shape) (blockIn plan words value)
+use Rattle.values.specs.declared.alter.Alter.{Alter}
+use Rattle.values.specs.declared.alter.Alter.the-variants.{Fails, Keeps, Renews}
+use Rattle.values.specs.declared.alter.Move.{Move}
+use Rattle.values.specs.declared.alter.Move.the-variants.{Breaks, Moves}
 
 -- the words with another block for a value
 abbrev pub putBlock : Plan → List ℕ → ℕ → List ℕ → List ℕ

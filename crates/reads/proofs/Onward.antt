@@ -7,11 +7,11 @@ use native.Mathlib.Omega.{arith}
 use lib.ListN.{length}
 use Rattle.words.specs.Words.{span}
 use Rattle.words.proofs.Forms.{runAt}
-use Rattle.lists.specs.Walk.{walkTo}
-use Rattle.lists.specs.declared.walk.Covering.{Covering}
-use Rattle.lists.specs.declared.walk.Walk.{Walk}
-use Rattle.lists.specs.declared.walk.Walk.the-variants.{Covered}
-use Rattle.lists.proofs.walk.Steps.{walkFrom, coverAt, starts, ends, covers, passes, not-covered, found-early, found-paid, counts-some, here-or-later}
+use Rattle.reads.specs.Walk.{walkTo}
+use Rattle.reads.specs.declared.walk.Covering.{Covering}
+use Rattle.reads.specs.declared.walk.Walk.{Walk}
+use Rattle.reads.specs.declared.walk.Walk.the-variants.{Covered}
+use Rattle.reads.proofs.walk.Steps.{walkFrom, coverAt, starts, ends, covers, passes, not-covered, found-early, found-paid, counts-some, here-or-later}
 
 -- the same word, with some of its groups passed
 abbrev pub nearer : Covering → ℕ → Covering

@@ -10,13 +10,13 @@ use lib.ListN.{length, getD, take, drop}
 use lib.Seq.{getD-drop}
 use Rattle.words.specs.Words.{runOf, span, groupIn, decode}
 use Rattle.words.proofs.Forms.{runAt, length-split, length-from, length-upto, decode-end}
 use Rattle.lists.specs.Combine.{Filled}
-use Rattle.lists.specs.Walk.{walkTo}
-use Rattle.lists.specs.declared.walk.Covering.{Covering}
-use Rattle.lists.specs.declared.walk.Walk.{Walk}
-use Rattle.lists.specs.declared.walk.Walk.the-variants.{Covered}
+use Rattle.reads.specs.Walk.{walkTo}
+use Rattle.reads.specs.declared.walk.Covering.{Covering}
+use Rattle.reads.specs.declared.walk.Walk.{Walk}
+use Rattle.reads.specs.declared.walk.Walk.the-variants.{Covered}
 use Rattle.lists.proofs.Covering.{group-at, group-rest, length-rest, filled-drop}
-use Rattle.lists.proofs.walk.Steps.{walkFrom, coverAt, starts, ends, covers, passes, not-covered, found-early, found-paid, here-or-later}
+use Rattle.reads.proofs.walk.Steps.{walkFrom, coverAt, starts, ends, covers, passes, not-covered, found-early, found-paid, here-or-later}
 
 -- ---- what is found
 

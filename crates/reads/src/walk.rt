@@ -1,8 +1,8 @@
 // Document 01, "Reading one bit": the walk over a list to the word that covers one group.
 ghost use mathlib.Core.Path.{_≡_};
 ghost use Prim.Native.Nat.{ℕ, _+_, _≤_};
-ghost use Rattle.lists.specs.Walk.{walkTo};
-ghost use Rattle.lists.specs.declared.walk.Walk.the-variants.{Covered};
+ghost use Rattle.reads.specs.Walk.{walkTo};
+ghost use Rattle.reads.specs.declared.walk.Walk.the-variants.{Covered};
 use words::word::span_of;
 
 // The word that covers the group sought, how many groups behind that one it covers too, and how many

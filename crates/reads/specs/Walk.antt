@@ -4,8 +4,8 @@ use mathlib.Core.List.{List, [], _∷_}
 use Prim.Native.Nat.{ℕ, zero, suc, _+_, _-_}
 use lib.Dec.{ltb, eqb}
 use Rattle.words.specs.Words.{runOf, span}
-use Rattle.lists.specs.declared.walk.Walk.{Walk}
-use Rattle.lists.specs.declared.walk.Walk.the-variants.{Covered, Damaged}
+use Rattle.reads.specs.declared.walk.Walk.{Walk}
+use Rattle.reads.specs.declared.walk.Walk.the-variants.{Covered, Damaged}
 
 -- to the group `skip` groups on; damage if the list ends first, if the budget is opened without covering the group, or if an opened fill counts 0
 abbrev pub walk : ℕ → List ℕ → ℕ → ℕ → Walk

@@ -6,11 +6,12 @@ use Prim.Native.Nat.{ℕ}
 use native.Mathlib.Omega.{arith}
 use Rattle.answers.specs.declared.Refusal.{Refusal}
 use Rattle.answers.specs.declared.Refusal.the-variants.{Damaged}
 use Rattle.values.specs.Change.{mergeDue}
-use Rattle.steps.specs.Alter.{blockIn, isWhole, mergeAlter, flipAlter, moveAlter}
-use Rattle.steps.specs.declared.alter.Alter.the-variants.{Fails, Keeps, Renews}
-use Rattle.steps.specs.declared.alter.Move.the-variants.{Breaks, Moves}
+use Rattle.values.specs.Alter.{isWhole, mergeAlter, flipAlter, moveAlter}
+use Rattle.steps.specs.Plans.{blockIn}
+use Rattle.values.specs.declared.alter.Alter.the-variants.{Fails, Keeps, Renews}
+use Rattle.values.specs.declared.alter.Move.the-variants.{Breaks, Moves}
 use Rattle.steps.specs.declared.entry.Plan.{Plan}
 
 module _ (plan : Plan) (words : List ℕ) (value : ℕ) where
   -- ---- a merge

@@ -3,10 +3,10 @@ use mathlib.Core.Path.{_≡_, _∙_, sym}
 use Prim.Native.Nat.{_-_, _≤_}
 use native.Mathlib.Omega.{arith}
 use lib.ListN.{length}
-use Rattle.lists.specs.Walk.{walkTo}
-use Rattle.lists.proofs.walk.Steps.{walkFrom, starts-late, starts, ends, spends, counts-none, covers, passes}
-use Rattle.lists.proofs.walk.walk_to.Statement.{statement}
-use Rattle.lists.proofs.walk.walk_to.Tie as tie
+use Rattle.reads.specs.Walk.{walkTo}
+use Rattle.reads.proofs.walk.Steps.{walkFrom, starts-late, starts, ends, spends, counts-none, covers, passes}
+use Rattle.reads.proofs.walk.walk_to.Statement.{statement}
+use Rattle.reads.proofs.walk.walk_to.Tie as tie
 
 abbrev Inv-loop : tie.InvT-loop
 Inv-loop list first group budget skip₀ opened₀ skip opened =

@@ -3,12 +3,12 @@ use mathlib.Core.Path.{_≡_}
 use mathlib.Core.Bool.{cond}
 use native.Mathlib.Omega.{arith}
 use borrow.Author.Needs.{needs}
-use Rattle.steps.specs.Alter.{flipAlter, flipWords}
-use Rattle.steps.specs.declared.alter.Alter.the-variants.{Keeps, Renews}
-use Rattle.steps.proofs.Altering.{inside}
-use Rattle.steps.proofs.alter.Exits.{Checked, flip-refused, may-flip, flip-done}
-use Rattle.steps.proofs.alter.flip_value.Statement.{statement}
-use Rattle.steps.proofs.alter.flip_value.Tie as tie
+use Rattle.values.specs.Alter.{flipAlter, flipWords}
+use Rattle.values.specs.declared.alter.Alter.the-variants.{Keeps, Renews}
+use Rattle.steps.proofs.Plans.{inside}
+use Rattle.values.proofs.alter.Exits.{Checked, flip-refused, may-flip, flip-done}
+use Rattle.values.proofs.alter.flip_value.Statement.{statement}
+use Rattle.values.proofs.alter.flip_value.Tie as tie
 
 -- the check has been made
 abbrev start : tie.After-check-lists → tie.Start

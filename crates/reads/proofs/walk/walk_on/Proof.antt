@@ -3,10 +3,10 @@ use mathlib.Core.Path.{_∙_, sym}
 use native.Mathlib.Nat.{sub-zero}
 use native.Mathlib.Omega.{arith}
 use borrow.Author.Needs.{needs}
-use Rattle.lists.proofs.walk.Steps.{ends, spends, counts-none, covers}
-use Rattle.lists.proofs.Onward.{on-same, on-next}
-use Rattle.lists.proofs.walk.walk_on.Statement.{statement}
-use Rattle.lists.proofs.walk.walk_on.Tie as tie
+use Rattle.reads.proofs.walk.Steps.{ends, spends, counts-none, covers}
+use Rattle.reads.proofs.Onward.{on-same, on-next}
+use Rattle.reads.proofs.walk.walk_on.Statement.{statement}
+use Rattle.reads.proofs.walk.walk_on.Tie as tie
 
 returns : tie.Need-returns
 returns c first group e =
