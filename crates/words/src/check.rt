@@ -1,8 +1,8 @@
 // The whole check of a list: whether it is canonical for its rows. Ones are counted apart, where they are needed.
 ghost use mathlib.Core.Path.{_≡_};
-ghost use mathlib.Core.Bool.{not};
-ghost use mathlib.Core.List.{map};
-ghost use Prim.Native.Nat.{_-_, _*_, _^_, _%_, _<_, _≤_};
+ghost use mathlib.Core.Bool.{true, cond, _&&_};
+ghost use mathlib.Core.List.{_∷_, map};
+ghost use Prim.Native.Nat.{_+_, _-_, _*_, _^_, _%_, _<_, _≤_};
 ghost use lib.Dec.{eqb};
 ghost use lib.ListN.{length, getD};
 ghost use Rattle.groups.specs.Rows.{rowLimit, onesIn, bitsOf, rowsOf};
@@ -14,17 +14,15 @@ use crate::word::fill_bit;
 use crate::word::fill_count;
 use crate::word::group_in;
 use crate::word::is_fill;
-use crate::word::span_of;
+use std::num::wrapping_add_u32;
+use std::num::wrapping_sub_u32;
 
-// A span has at most 30 bits and is added up in two halves of 15, so that 32 bits hold the sums over all
-// words of a list.
-const HALF: u32 = 0x8000;
+// No word of a list that is whole covers so many groups, and 32 bits hold the sum of fewer over all words
+// of a list.
+const TOO_MANY: u32 = 0x8000;
 
-// What one pass over a list finds: whether its words keep the form, and how many groups they cover.
-pub struct Form {
-    pub kept: bool,
-    pub groups: usize,
-}
+// Stands for what a word covers that does not keep the form.
+const FAULT: u32 = 0xFFFFFFFF;
 
 // Whether the list is canonical.
 pub enum Checked {
@@ -32,48 +30,54 @@ pub enum Checked {
     Bad,
 }
 
-// 1 where two numbers are the same, else 0.
-fn same(x: u32, y: u32) -> u32
-    ensures { λ r. ⌜ eqb r 0 ≡ not (eqb x y) ⌝ }
+// One of two numbers. Both are at hand, so that the pass over a list has no branch and is vectorised.
+fn pick(test: bool, yes: u32, no: u32) -> u32
+    ensures { λ r. ⌜ r ≡ cond test yes no ⌝ }
 {
-    if x == y { 1 } else { 0 }
+    if test { yes } else { no }
 }
 
-// 0 where a word keeps the form behind the word before it, else 1. The two highest bits of a word say
-// whether it is a fill, and of which bit.
-fn fault_of(before: u32, word: u32) -> u32
-    ensures { λ r. ⌜ eqb r 0 ≡ keepsForm (bitAfter (runOf before)) (runOf word) ⌝ }
+// How many groups a word covers beyond one; too many where it does not keep the form behind the word
+// before it. The two highest bits of a word say whether it is a fill, and of which bit. A fill that counts
+// no group wraps to a fault.
+fn excess_of(before: u32, word: u32) -> u32
+    ensures { λ r. ⌜ (keepsForm (bitAfter (runOf before)) (runOf word) ≡ true → r + 1 ≡ span (runOf word))
+        × (r < 0x8000 → keepsForm (bitAfter (runOf before)) (runOf word) ≡ true) ⌝ }
 {
-    if is_fill(word) {
-        return same(before >> 30, word >> 30) | same(fill_count(word), 0);
-    }
-    same(word, 0) | same(word, ALL_ONES)
+    let counted = wrapping_sub_u32(fill_count(word), 1);
+    let fill = pick(before >> 30 == word >> 30, FAULT, counted);
+    let excess = pick(is_fill(word), fill, 0);
+    pick(word == 0, FAULT, pick(word == ALL_ONES, FAULT, excess))
 }
 
-// One pass over a list, each word read once. It looks at all of them: without an early end the loop is
-// vectorised. No fill stands before the first word: 0 is read as a literal.
-fn form_of(list: &[u32]) -> Form
-    requires { ⌜ 31 * length (now list) ≤ rowLimit ⌝ }
-    ensures { λ r. ⌜ (r .kept ≡ wellFormed noFill (map runOf (now (list .entry)))) × (r .groups ≡ length (decode (now (list .entry)))) ⌝ }
+// The word in front of place i. No fill stands before the first word: 0 is read as a literal.
+fn word_before(list: &[u32], i: usize) -> u32
+    requires { ⌜ i ≤ length (now list) ⌝ }
+    ensures { λ r. ⌜ r ≡ getD (0 ∷ now (list .entry)) i 0 ⌝ }
 {
-    let mut faults: u32 = 0;
-    let mut low: u32 = 0;
-    let mut high: u32 = 0;
-    let mut before: u32 = 0;
+    if i == 0 { 0 } else { list[i - 1] }
+}
+
+// Whether the words of a list keep the form and cover so many groups: one pass, without an early end, so
+// that it is vectorised. The sum can wrap only where a word covers too many, and the bits of all words
+// together show that.
+fn keeps_form(list: &[u32], groups: usize) -> bool
+    requires { ⌜ (length (now list) ≤ groups) × (groups ≤ 4096) ⌝ }
+    ensures { λ r. ⌜ r ≡ (wellFormed noFill (map runOf (now (list .entry))) && eqb (length (decode (now (list .entry)))) groups) ⌝ }
+{
+    let mut gathered: u32 = 0;
+    let mut covered: u32 = 0;
     let mut i: usize = 0;
     while i < list.len() {
-        let word = list[i];
-        let span = span_of(word);
-        faults |= fault_of(before, word);
-        low += span % HALF;
-        high += span / HALF;
-        before = word;
+        let excess = excess_of(word_before(list, i), list[i]);
+        gathered |= excess;
+        covered = wrapping_add_u32(covered, excess);
         i += 1;
     }
-    Form {
-        kept: faults == 0,
-        groups: (high as usize) * (HALF as usize) + (low as usize),
+    if TOO_MANY <= gathered {
+        return false;
     }
+    (covered as usize) + list.len() == groups
 }
 
 // The group of the last word; 0 where there is none.
@@ -104,11 +108,7 @@ pub fn check(list: &[u32], length: usize) -> Checked
     if groups < list.len() {
         return Checked::Bad;
     }
-    let form = form_of(list);
-    if !form.kept {
-        return Checked::Bad;
-    }
-    if form.groups != groups {
+    if !keeps_form(list, groups) {
         return Checked::Bad;
     }
     if !tail_clear(last_group(list), groups * 31 - length) {

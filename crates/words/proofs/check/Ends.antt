@@ -1,19 +1,20 @@
 -- The exits of the whole check behind its pass: a list of too many words, and the last group. Assumes nothing.
 use mathlib.Core.Path.{_≡_, refl, _∙_, ap, sym}
-use mathlib.Core.Bool.{Bool, true, false, cond, and-eq-true-iff}
+use mathlib.Core.Bool.{Bool, true, false, cond, _&&_, and-eq-true-iff}
 use mathlib.Core.List.{List, [], _∷_, map}
 use Prim.Native.Nat.{ℕ, _+_, _*_, _-_, _%_, _^_, _<_, _≤_}
 use native.Mathlib.Omega.{arith}
 use lib.Dec.{eqb}
 use lib.ListN.{length, take, length-map}
 use lib.Seq.{take-all}
+use borrow.Author.Tests.{eqb-true, ne-eqb}
 use Rattle.groups.specs.Rows.{groupsFor}
 use Rattle.words.specs.Words.{Run, runOf, span, groupIn, groupsIn, decode, noFill, keepsForm, bitAfter, wellFormed}
 use Rattle.words.specs.Check.{checkOf}
 use Rattle.words.specs.declared.check.Checked.the-variants.{Whole, Bad}
 use Rattle.words.proofs.Forms.{runAt, bitPast, keeps-covers, keeps-first, length-groups, form-upto, decode-upto}
 use Rattle.groups.proofs.Tail.{lastOf, last-repeated, clear-tail}
-use Rattle.words.proofs.check.Verdict.{not-formed, not-long, as-clear}
+use Rattle.words.proofs.check.Verdict.{not-formed, as-clear}
 
 -- ---- a word a group at most
 
@@ -56,13 +57,15 @@ module _ (list : List ℕ) (rows : ℕ) where
   too-long h = go (wellFormed noFill (map runOf list)) refl
     where
       go : (t : Bool) → wellFormed noFill (map runOf list) ≡ t → Bad ≡ checkOf list rows
-      go true e = not-long list rows (λ q. omega (arith, q, words-few list e))
-      go false e = not-formed list rows e
+      go true e = not-formed list rows (rw (e, ne-eqb (length (decode list)) (groupsFor rows) (λ q. omega (arith, words-few list e))) refl)
+      go false e = not-formed list rows (rw e refl)
 
   -- the list keeps the form and covers M groups: the test of its last group decides
-  pub ends : wellFormed noFill (map runOf list) ≡ true → (groups : ℕ) → groups ≡ groupsFor rows → length (decode list) ≡ groups
+  pub ends : (groups : ℕ) → groups ≡ groupsFor rows → wellFormed noFill (map runOf list) && eqb (length (decode list)) groups ≡ true
       → (last : ℕ) → last ≡ groupIn (runAt list (length list - 1)) → (clear : Bool) → clear ≡ eqb (last % 2 ^ (groups * 31 - rows)) 0
       → cond clear Whole Bad ≡ checkOf list rows
-  ends formed groups g long last l clear t =
+  ends groups g formed last l clear t =
+      let parts = and-eq-true-iff (wellFormed noFill (map runOf list)) (eqb (length (decode list)) groups) .0 formed in
+      let long = eqb-true (length (decode list)) groups (parts .1) in
       let unused : groups * 31 - rows ≡ 31 * length (decode list) - rows = omega arith in
-      rw (t, unused, l, last-of list formed, ← clear-tail rows (decode list) (omega arith)) (as-clear list rows formed (long ∙ g))
+      rw (t, unused, l, last-of list (parts .0), ← clear-tail rows (decode list) (omega arith)) (as-clear list rows (rw g at formed))

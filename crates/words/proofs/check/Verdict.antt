@@ -1,31 +1,26 @@
 -- The answer of the whole check and the parts of the canonical form: the answer from the parts, and what it says of the list. Assumes nothing.
 use mathlib.Core.Path.{_≡_, refl}
-use mathlib.Core.Bool.{Bool, true, false, cond, and-false}
+use mathlib.Core.Bool.{Bool, true, false, cond, _&&_}
 use mathlib.Core.List.{List, map}
 use Prim.Native.Nat.{ℕ}
+use lib.Dec.{eqb}
 use lib.ListN.{length}
-use borrow.Author.Tests.{eq-eqb, ne-eqb}
 use Rattle.groups.specs.Rows.{groupsFor, clearFrom}
 use Rattle.words.specs.Words.{runOf, decode, noFill, wellFormed, canonical}
 use Rattle.words.specs.Check.{checkOf}
 use Rattle.words.specs.declared.check.Checked.the-variants.{Whole, Bad}
 
 module _ (list : List ℕ) (rows : ℕ) where
-  -- a word breaks the form
-  pub not-formed : wellFormed noFill (map runOf list) ≡ false → Bad ≡ checkOf list rows
+  -- a word breaks the form, or the counts and literals do not add to M
+  pub not-formed : wellFormed noFill (map runOf list) && eqb (length (decode list)) (groupsFor rows) ≡ false → Bad ≡ checkOf list rows
   unfolding checkOf canonical
   not-formed e = rw e refl
 
-  -- the counts and literals do not add to M
-  pub not-long : (length (decode list) ≡ groupsFor rows → ⊥) → Bad ≡ checkOf list rows
-  unfolding checkOf canonical
-  not-long e = rw (ne-eqb (length (decode list)) (groupsFor rows) e, and-false) refl
-
   -- the bits past the last row decide
-  pub as-clear : wellFormed noFill (map runOf list) ≡ true → length (decode list) ≡ groupsFor rows
+  pub as-clear : wellFormed noFill (map runOf list) && eqb (length (decode list)) (groupsFor rows) ≡ true
       → cond (clearFrom rows (decode list)) Whole Bad ≡ checkOf list rows
   unfolding checkOf canonical
-  as-clear e k = rw (e, eq-eqb (length (decode list)) (groupsFor rows) k) refl
+  as-clear e = rw e refl
 
   -- a list that the check finds bad is not canonical
   pub bad-canonical : Bad ≡ checkOf list rows → canonical rows list ≡ false

@@ -1,15 +1,13 @@
--- `check` meets its contract, an exit at a time: the number of words, the form, the number of groups, the last group. Assumes nothing.
+-- `check` meets its contract, an exit at a time: the number of words, the form and the number of groups, the last group. Assumes nothing.
 use mathlib.Core.Path.{_≡_, _∙_, ap, sym}
 use mathlib.Core.Bool.{Bool, cond}
 use native.Mathlib.Omega.{arith}
-use lib.ListN.{length}
 use borrow.Author.Needs.{needs}
 use borrow.Author.Tests.{not-true, not-false}
-use Rattle.words.specs.Words.{decode}
 use Rattle.words.specs.Check.{checkOf}
 use Rattle.words.specs.declared.check.Checked.the-variants.{Whole, Bad}
 use Rattle.words.proofs.check.Ends.{too-long, ends}
-use Rattle.words.proofs.check.Verdict.{not-formed, not-long}
+use Rattle.words.proofs.check.Verdict.{not-formed}
 use Rattle.words.proofs.check.check.Statement.{statement}
 use Rattle.words.proofs.check.check.Tie as tie
 
@@ -21,54 +19,46 @@ returns c =
     let a = c .before .before .before .args in
     too-long (a .list .now) (a .length) (omega (arith, c .before .groups-for .ensures, c .if1 .taken))
 
-form-of-requires : tie.Need-form-of-requires
-form-of-requires c κs = omega (arith, c .before .groups-for .ensures, c .before .before .before .pre, c .if1 .left)
+keeps-form-requires : tie.Need-keeps-form-requires
+keeps-form-requires c κs = omega (arith, c .before .groups-for .ensures, c .before .before .before .pre, c .if1 .left)
 
 returns-2 : tie.Need-returns-2
 returns-2 c =
-    let a = c .before .before .before .before .before .before .args in
-    let form = c .before .before .form-of in
-    not-formed (a .list .now) (a .length) (sym (form .ensures .0) ∙ not-true (form .result .kept) (c .if2 .taken))
-
-returns-3 : tie.Need-returns-3
-returns-3 c =
-    let a = c .before .before .before .before .before .before .before .before .args in
-    let form = c .before .before .before .before .form-of in
-    let groups = c .before .before .before .before .before .before .groups-for in
-    not-long (a .list .now) (a .length) (λ q. omega (arith, q, form .ensures .1, groups .ensures, c .if3 .taken))
+    let a = c .before .before .before .before .before .args in
+    let keeps = c .before .keeps-form in
+    let groups = c .before .before .before .groups-for in
+    not-formed (a .list .now) (a .length) (rw (groups .ensures) at (sym (keeps .ensures) ∙ not-true (keeps .result) (c .if2 .taken)))
 
 last-group-requires : tie.Need-last-group-requires
 last-group-requires c κs = search needs
 
 mul-tail-clear : tie.Need-mul-tail-clear
-mul-tail-clear c = omega (arith, c .before .before .before .before .before .before .before .groups-for .ensures)
+mul-tail-clear c = omega (arith, c .before .before .before .before .groups-for .ensures)
 
 sub-tail-clear : tie.Need-sub-tail-clear
-sub-tail-clear c = omega (arith, c .before .before .before .before .before .before .before .groups-for .ensures)
+sub-tail-clear c = omega (arith, c .before .before .before .before .groups-for .ensures)
 
 tail-clear-requires : tie.Need-tail-clear-requires
-tail-clear-requires c κs = omega (arith, c .before .before .before .before .before .before .before .groups-for .ensures)
+tail-clear-requires c κs = omega (arith, c .before .before .before .before .groups-for .ensures)
 
 -- where only the last group is left to decide
 abbrev start : tie.After-tail-clear → tie.Start
-start c = c .before .before .before .before .before .before .before .before .before .before
+start c = c .before .before .before .before .before .before .before
 
 told : (c : tie.After-tail-clear) → cond (c .tail-clear .result) Whole Bad ≡ checkOf (start c .args .list .now) (start c .args .length)
 told c =
     let a = start c .args in
-    let form = c .before .before .before .before .before .before .form-of in
-    let groups = c .before .before .before .before .before .before .before .before .groups-for in
-    let formed = sym (form .ensures .0) ∙ not-false (form .result .kept) (c .before .before .before .before .if2 .left) in
-    let long : length (decode (a .list .now)) ≡ groups .result = omega (arith, form .ensures .1, c .before .before .if3 .left) in
+    let keeps = c .before .before .before .keeps-form in
+    let groups = c .before .before .before .before .before .groups-for in
     let last = c .before .last-group in
-    ends (a .list .now) (a .length) formed (groups .result) (groups .ensures) long
+    ends (a .list .now) (a .length) (groups .result) (groups .ensures) (sym (keeps .ensures) ∙ not-false (keeps .result) (c .before .before .if2 .left))
     (last .result) (last .ensures) (c .tail-clear .result) (c .tail-clear .ensures)
 
-returns-4 : tie.Need-returns-4
-returns-4 c = ap (λ (t : Bool). cond t Whole Bad) (sym (not-true (c .before .tail-clear .result) (c .if4 .taken))) ∙ told (c .before)
+returns-3 : tie.Need-returns-3
+returns-3 c = ap (λ (t : Bool). cond t Whole Bad) (sym (not-true (c .before .tail-clear .result) (c .if3 .taken))) ∙ told (c .before)
 
-returns-5 : tie.Need-returns-5
-returns-5 c = ap (λ (t : Bool). cond t Whole Bad) (sym (not-false (c .before .tail-clear .result) (c .if4 .left))) ∙ told (c .before)
+returns-4 : tie.Need-returns-4
+returns-4 c = ap (λ (t : Bool). cond t Whole Bad) (sym (not-false (c .before .tail-clear .result) (c .if3 .left))) ∙ told (c .before)
 
 pub check-spec : {M : Type 1} → statement M
 check-spec =
@@ -76,12 +66,11 @@ check-spec =
     (tie.spec
     groups-for-requires
     returns
-    form-of-requires
+    keeps-form-requires
     returns-2
-    returns-3
     last-group-requires
     mul-tail-clear
     sub-tail-clear
     tail-clear-requires
-    returns-4
-    returns-5)
+    returns-3
+    returns-4)
