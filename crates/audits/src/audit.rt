@@ -14,11 +14,11 @@ use blocks::shape::Shape;
 use blocks::shape::update_room;
 use blocks::whole::Lists;
 use blocks::whole::check_lists;
+use groups::rows::GROUP_LIMIT;
+use groups::rows::all_zero;
 use lists::clear::clear_from;
 use lists::plain::take_rows;
 use lists::plain::turn_over_groups;
-use groups::rows::GROUP_LIMIT;
-use groups::rows::all_zero;
 
 // Whether neither of two whole lists has a bit at row `issued` or above.
 fn lists_clear(words: &[u32], at: usize, shape: Shape, issued: u32) -> bool

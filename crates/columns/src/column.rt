@@ -5,16 +5,16 @@ ghost use lib.Dec.{leb};
 ghost use lib.ListN.{length};
 ghost use Rattle.steps.specs.Entry.{validByte, validColumn, enteredLoad};
 ghost use Rattle.columns.specs.Spread.{Blocks, packedWords, loadedWords};
+use crate::listing::pack_block;
+use crate::spread::spread;
+use answers::Refusal;
+use groups::rows::groups_for;
+use std::num::wrapping_add_u8;
 use steps::entry::Entry;
 use steps::entry::Plan;
 use steps::entry::ask;
 use steps::entry::enter_index;
 use steps::header::header_for;
-use crate::spread::spread;
-use answers::Refusal;
-use std::num::wrapping_add_u8;
-use crate::listing::pack_block;
-use groups::rows::groups_for;
 
 // A byte and 1, where 255 becomes 0: it is at most d just where the byte is below d or is 255.
 pub fn following(byte: u8) -> u8

@@ -6,8 +6,8 @@ ghost use lib.ListN.{length, getD, set};
 ghost use Rattle.groups.specs.Rows.{groupOf};
 ghost use Rattle.columns.specs.Column.{rowsWith};
 ghost use Rattle.columns.specs.Spread.{Blocks, Placed, Spread};
-use steps::entry::Plan;
 use groups::rows::smaller;
+use steps::entry::Plan;
 
 // The most values of an index.
 const VALUE_LIMIT: usize = 64;

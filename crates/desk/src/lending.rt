@@ -3,6 +3,7 @@ use crate::lent::Lent;
 use crate::lent::ROOM;
 use crate::lent::after;
 use answers::Answer;
+use groups::rows::smaller;
 use index::answering::query;
 use index::answering::value;
 use index::auditing::audit;
@@ -26,7 +27,6 @@ use lines::verbs::Verb;
 use steps::header::Changed;
 use steps::header::Fence;
 use steps::header::Header;
-use groups::rows::smaller;
 
 // The calls that change rows.
 pub enum Change {

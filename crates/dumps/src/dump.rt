@@ -8,13 +8,13 @@ ghost use Rattle.answers.specs.Outcome.{Gives};
 ghost use Rattle.groups.specs.Rows.{rowLimit};
 ghost use Rattle.steps.specs.Plans.{Suits, blockIn};
 ghost use Rattle.dumps.specs.Dumping.{fencesFor, fenceHolds, fenceMarked, rowsGiven};
-use steps::entry::Plan;
-use steps::header::Fence;
+use crate::span::mark_span;
 use answers::Answer;
 use answers::Refusal;
-use crate::span::mark_span;
 use groups::rows::groups_for;
 use groups::rows::smaller;
+use steps::entry::Plan;
+use steps::header::Fence;
 
 // How many fences of a value serve a row below `issued`.
 pub fn fences_for(issued: u32, spacing: u32) -> usize

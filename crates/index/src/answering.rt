@@ -6,7 +6,6 @@ ghost use Rattle.steps.specs.Reading.{valuePaper};
 ghost use Rattle.index.specs.Calls.{valueOutcome, queryOutcome};
 use crate::reading::read_row;
 use answers::Answer;
-use values::alter::query_value;
 use steps::entry::Entry;
 use steps::entry::enter_row;
 use steps::entry::enter_value;
@@ -15,6 +14,7 @@ use steps::header::Header;
 use steps::row::Value;
 use steps::row::refused;
 use steps::row::value_of;
+use values::alter::query_value;
 
 // The state of a row, and the words opened to find it: at most d x (G + 2T + 1), in all d values, each from
 // its fence on.

@@ -19,13 +19,13 @@ ghost use Rattle.steps.specs.Memory.{memoryOf, isSound};
 use crate::fences::fences_right;
 use answers::Answer;
 use answers::Refusal;
+use groups::rows::GROUP_LIMIT;
 use steps::audit::audit_lists;
 use steps::entry::Entry;
 use steps::entry::Plan;
 use steps::entry::enter_index;
 use steps::header::Fence;
 use steps::header::Header;
-use groups::rows::GROUP_LIMIT;
 
 // And whether its fences are right.
 fn audit_value(

@@ -13,11 +13,6 @@ ghost use Rattle.index.specs.Calls.{mergeAfter, insertAfter, deleteAfter
 use crate::fences::renew;
 use crate::reading::read_row;
 use answers::Refusal;
-use values::alter::Alter;
-use values::alter::Move;
-use values::alter::flip_value;
-use values::alter::merge_value;
-use values::alter::move_row;
 use steps::entry::Entry;
 use steps::entry::Plan;
 use steps::entry::enter_insert;
@@ -33,6 +28,11 @@ use steps::header::refuse;
 use steps::row::Holder;
 use steps::row::holder_of;
 use steps::row::is_free;
+use values::alter::Alter;
+use values::alter::Move;
+use values::alter::flip_value;
+use values::alter::merge_value;
+use values::alter::move_row;
 
 // Makes the fences of a value anew, if a merge asks for it.
 fn renew_if(words: &[u32], fences: &mut [Fence], plan: Plan, value: u32, due: bool)

@@ -15,12 +15,12 @@ use answers::Refusal;
 use dumps::dump::fences_for;
 use dumps::dump::give_rows;
 use dumps::dump::mark_fence;
+use groups::rows::ROW_LIMIT;
 use steps::entry::Entry;
 use steps::entry::Plan;
 use steps::entry::enter_index;
 use steps::header::Fence;
 use steps::header::Header;
-use groups::rows::ROW_LIMIT;
 
 // Marks the rows of one value. False if one of them is damaged.
 fn mark_value(

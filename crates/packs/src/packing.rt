@@ -8,6 +8,8 @@ ghost use Rattle.answers.specs.Outcome.{Gives};
 ghost use Rattle.groups.specs.Rows.{rowLimit, areBits};
 ghost use Rattle.words.specs.Words.{packed};
 ghost use Rattle.packs.specs.Calls.{packOutcome};
+use answers::Answer;
+use answers::Refusal;
 use groups::rows::GROUP_LIMIT;
 use groups::rows::ROW_LIMIT;
 use groups::rows::all_bits;
@@ -19,8 +21,6 @@ use words::writer::copy;
 use words::writer::finish;
 use words::writer::next_step;
 use words::writer::store;
-use answers::Answer;
-use answers::Refusal;
 
 // Writes the list of some rows to a place that is long enough; answers its length.
 fn pack_into(rows: &[u8], out: &mut [u32]) -> usize

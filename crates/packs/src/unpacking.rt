@@ -7,15 +7,15 @@ ghost use Rattle.answers.specs.Outcome.{Gives};
 ghost use Rattle.groups.specs.Rows.{rowLimit, rowsOf};
 ghost use Rattle.words.specs.Words.{runOf, span, decode};
 ghost use Rattle.packs.specs.Calls.{unpackOutcome};
-use words::check::Checked;
-use words::check::check;
+use answers::Answer;
+use answers::Refusal;
 use groups::rows::ROW_LIMIT;
 use groups::rows::put_rows;
+use words::check::Checked;
+use words::check::check;
 use words::word::fill_bit;
 use words::word::is_fill;
 use words::word::span_of;
-use answers::Answer;
-use answers::Refusal;
 
 // Writes one row's value to all of `out`.
 fn put_fill(out: &mut [u8], bit: u8)

@@ -7,15 +7,15 @@ ghost use Rattle.answers.specs.Outcome.{Gives};
 ghost use Rattle.values.specs.Change.{flipOf};
 ghost use Rattle.values.specs.Alter.{mergeAlter, mergeWords, flipAlter, flipWords, moveAlter, moveWords, queryValue};
 ghost use Rattle.steps.specs.Plans.{Suits};
-use steps::entry::Plan;
-use answers::Answer;
-use answers::Refusal;
-use blocks::whole::Lists;
-use blocks::whole::check_lists;
 use crate::change::Flipped;
 use crate::change::flip;
 use crate::change::merge;
 use crate::current::list_current;
+use answers::Answer;
+use answers::Refusal;
+use blocks::whole::Lists;
+use blocks::whole::check_lists;
+use steps::entry::Plan;
 
 // What came of a change: refused, or done with fences kept or to be made anew.
 pub enum Alter {

@@ -16,10 +16,10 @@ use blocks::put::put_value;
 use blocks::read::Reading;
 use blocks::read::read_update;
 use blocks::shape::Shape;
-use lists::combine::xor_into;
-use lists::one_row::one_row;
 use groups::rows::GROUP_LIMIT;
 use groups::rows::row_of;
+use lists::combine::xor_into;
+use lists::one_row::one_row;
 
 // What a flip did: where it merged, the fences of the value are to be made anew.
 pub enum Flipped {

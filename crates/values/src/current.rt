@@ -13,8 +13,8 @@ ghost use Rattle.values.specs.Query.{listOutcome};
 use answers::Answer;
 use answers::Refusal;
 use blocks::shape::Shape;
-use lists::combine::xor_into;
 use groups::rows::GROUP_LIMIT;
+use lists::combine::xor_into;
 use words::word::group_in;
 use words::writer::copy;
 

@@ -111,11 +111,6 @@ module _ (list : List ℕ) (i : ℕ) (h : i < length list) where
   pub length-from : length (decode (drop i list)) ≡ span (runAt list i) + length (decode (drop (i + 1) list))
   length-from = ap length decode-from ∙ length-groups (runAt list i) (map runOf (drop (i + 1) list))
 
-  pub form-from : (before : ℕ)
-      → wellFormed before (map runOf (drop i list))
-      ≡ (keepsForm before (runAt list i) && wellFormed (bitAfter (runAt list i)) (map runOf (drop (i + 1) list)))
-  form-from before = ap (wellFormed before) runs-from
-
   runs-upto : map runOf (take (i + 1) list) ≡ map runOf (take i list) ++ runAt list i ∷ []
   runs-upto = rw (add-one, take-suc list i 0 h, map-append) refl
 
@@ -138,6 +133,3 @@ module _ (list : List ℕ) (i : ℕ) (h : i < length list) where
 module _ (list : List ℕ) (i : ℕ) (h : length list ≤ i) where
   pub decode-end : decode (drop i list) ≡ []
   decode-end = rw (drop-of-length-le list h) refl
-
-  pub form-end : (before : ℕ) → wellFormed before (map runOf (drop i list)) ≡ true
-  form-end before = rw (drop-of-length-le list h) refl

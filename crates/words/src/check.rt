@@ -8,12 +8,12 @@ ghost use lib.ListN.{length, getD};
 ghost use Rattle.groups.specs.Rows.{rowLimit, onesIn, bitsOf, rowsOf};
 ghost use Rattle.words.specs.Words.{runOf, span, groupIn, decode, noFill, keepsForm, bitAfter, wellFormed};
 ghost use Rattle.words.specs.Check.{checkOf};
-use groups::rows::groups_for;
 use crate::word::ALL_ONES;
 use crate::word::fill_bit;
 use crate::word::fill_count;
 use crate::word::group_in;
 use crate::word::is_fill;
+use groups::rows::groups_for;
 use std::num::wrapping_add_u32;
 use std::num::wrapping_sub_u32;
 
