@@ -1,15 +1,13 @@
 -- Document 01, "What the calls do": Dump's part for one value. Each row has a byte, 255 while no value has it; the rows that are 1 in V xor U get the value.
 use mathlib.Core.Bool.{Bool, true, false, cond, _&&_, _||_}
 use mathlib.Core.List.{List, [], _∷_}
-use Prim.Native.Nat.{ℕ, suc, _*_, _-_, _/_, _%_, _^_}
-use lib.Bits.{bitAnd, bitOr}
+use Prim.Native.Nat.{ℕ, suc, _-_, _/_, _%_, _^_}
 use lib.Dec.{leb, ltb, eqb}
 use Rattle.reads.specs.Walk.{walkTo}
 use Rattle.blocks.specs.Read.{groupRead, joined, readGroup}
 use Rattle.blocks.specs.declared.shape.Shape.{Shape}
 use Rattle.blocks.specs.declared.read.Reading.{Reading}
 use Rattle.blocks.specs.declared.read.Reading.the-variants.{Group, Broken}
-use Rattle.dumps.specs.declared.marking.Octets.{Octets}
 
 -- bytes changed row by row, the first of them being that of the row given
 abbrev pub eachRow : (ℕ → ℕ → ℕ) → ℕ → List ℕ → List ℕ
@@ -66,16 +64,6 @@ module _ (reading : ℕ → Reading) (from to issued : ℕ) where
 -- readings of the same bits in every group
 abbrev pub alike : ℕ → ℕ → Reading
 alike bits group = Group bits 0
-
--- a group's rows and a 0 behind them, eight at a time
-abbrev pub octetsOf : ℕ → Octets
-octetsOf group = record { first = group * 2 / 2 ^ 24 % 256; second = group * 2 / 2 ^ 16 % 256; third = group * 2 / 2 ^ 8 % 256; fourth = group * 2 / 2 ^ 0 % 256 }
-
--- the bits of octets that their masks have
-abbrev pub underMasks : Octets → Octets → ℕ
-underMasks octets masks =
-    bitOr (bitOr (bitOr (bitAnd (octets .first) (masks .first)) (bitAnd (octets .second) (masks .second))) (bitAnd (octets .third) (masks .third)))
-    (bitAnd (octets .fourth) (masks .fourth))
 
 -- readings by the walks over V from a word on, whose first group and budget are given, and over U
 abbrev pub inLists : List ℕ → List ℕ → ℕ → ℕ → ℕ → ℕ → Reading

@@ -1,14 +1,13 @@
 // The rows of some groups get a value as their byte, as Dump keeps them: a byte is 255 while no value has
 // its row.
 ghost use mathlib.Core.Path.{_≡_};
-ghost use mathlib.Core.Bool.{true, cond};
-ghost use Prim.Native.Nat.{min, _+_, _-_, _/_, _%_, _^_, _<_, _≤_};
-ghost use lib.Dec.{eqb};
+ghost use mathlib.Core.Bool.{true};
+ghost use Prim.Native.Nat.{_+_, _-_, _<_, _≤_};
 ghost use lib.ListN.{length};
 ghost use Rattle.groups.specs.Rows.{groupsFor};
 ghost use Rattle.words.specs.Words.{allOnes};
 ghost use Rattle.words.specs.Writer.{Alone};
-ghost use Rattle.dumps.specs.Dump.{eachRow, everyRow, freeInGroup, markedInGroup, groupsHold, groupsMarked, alike, octetsOf, underMasks};
+ghost use Rattle.dumps.specs.Dump.{eachRow, everyRow, freeInGroup, markedInGroup, markedInGroups, groupsHold, groupsMarked, alike};
 use groups::rows::smaller;
 use words::word::ALL_ONES;
 
@@ -36,111 +35,13 @@ fn mark_few(rows: &mut [u8], group: u32, value: u8) -> bool
     true
 }
 
-fn least_of(x: u8, y: u8) -> u8
-    ensures { λ r. ⌜ r ≡ min x y ⌝ }
+// The second of two bytes where a group has the row's bit, and else the first; the row behind the
+// group's has none.
+fn by_bit(group: u32, row: usize, clear: u8, set: u8) -> u8
+    requires { ⌜ row < 32 ⌝ }
+    ensures { λ r. ⌜ r ≡ markedInGroups (alike group) 0 1 31 set row clear ⌝ }
 {
-    if x < y { x } else { y }
-}
-
-// A group's 31 rows and a 0 behind them, eight a byte; or masks of such rows.
-pub struct Octets {
-    pub first: u8,
-    pub second: u8,
-    pub third: u8,
-    pub fourth: u8,
-}
-
-// The masks of the eight rows of an octet between zeros: from place 24 - 8 x k on, entry i is the mask of
-// row i in octet k, and 0 if the row is in another octet.
-const WINDOW: [u8; 56] = [
-    0,
-    0,
-    0,
-    0,
-    0,
-    0,
-    0,
-    0,
-    0,
-    0,
-    0,
-    0,
-    0,
-    0,
-    0,
-    0,
-    0,
-    0,
-    0,
-    0,
-    0,
-    0,
-    0,
-    0,
-    0x80,
-    0x40,
-    0x20,
-    0x10,
-    0x08,
-    0x04,
-    0x02,
-    0x01,
-    0,
-    0,
-    0,
-    0,
-    0,
-    0,
-    0,
-    0,
-    0,
-    0,
-    0,
-    0,
-    0,
-    0,
-    0,
-    0,
-    0,
-    0,
-    0,
-    0,
-    0,
-    0,
-    0,
-    0,
-];
-
-// Eight bits, the lowest of them at place `shift`.
-fn octet(bits: u32, shift: u32) -> u8
-    requires { ⌜ shift < 32 ⌝ }
-    ensures { λ r. ⌜ r ≡ bits / 2 ^ shift % 256 ⌝ }
-{
-    ((bits >> shift) & 0xFF) as u8
-}
-
-fn octets_of(group: u32) -> Octets
-    requires { ⌜ group < 0x80000000 ⌝ }
-    ensures { λ r. ⌜ r ≡ octetsOf group ⌝ }
-{
-    let bits = group * 2;
-    Octets {
-        first: octet(bits, 24),
-        second: octet(bits, 16),
-        third: octet(bits, 8),
-        fourth: octet(bits, 0),
-    }
-}
-
-// The second of two bytes where an octet has a bit of its mask, and else the first.
-fn by_bit(octets: Octets, masks: Octets, clear: u8, set: u8) -> u8
-    ensures { λ r. ⌜ r ≡ cond (eqb (underMasks octets masks) 0) clear set ⌝ }
-{
-    let first = octets.first & masks.first;
-    let second = octets.second & masks.second;
-    let third = octets.third & masks.third;
-    let fourth = octets.fourth & masks.fourth;
-    if first | second | third | fourth == 0 {
+    if group & (0x40000000 >> row) == 0 {
         clear
     } else {
         set
@@ -148,29 +49,22 @@ fn by_bit(octets: Octets, masks: Octets, clear: u8, set: u8) -> u8
 }
 
 // Gives the value to each row of a whole group whose bit is 1; `rows` has the row behind the group too,
-// which stays as it is. All 32 are looked at, in bytes alone: the loop is vectorised, sixteen at a time.
+// which stays as it is. All 32 are looked at: the loop is vectorised, sixteen at a time, and its masks are
+// computed by the compiler. (A table of them would be written to memory at each call.)
 fn mark_many(rows: &mut [u8], group: u32, value: u8) -> bool
-    requires { ⌜ (length (now rows) ≡ 32) × (group < 0x80000000) ⌝ }
+    requires { ⌜ length (now rows) ≡ 32 ⌝ }
     ensures { λ r. ⌜ (r ≡ groupsHold (alike group) 0 1 31 (now (rows .entry)))
         × (r ≡ true → now (rows .exit) ≡ groupsMarked (alike group) 0 1 31 value (now (rows .entry))) ⌝ }
 {
-    let octets = octets_of(group);
-    let window = WINDOW;
-    let mut least: u8 = 255;
+    let mut free: u8 = 255;
     let mut row: usize = 0;
     while row < 32 {
-        let masks = Octets {
-            first: window[row + 24],
-            second: window[row + 16],
-            third: window[row + 8],
-            fourth: window[row],
-        };
         let byte = rows[row];
-        least = least_of(least, by_bit(octets, masks, 255, byte));
-        rows[row] = by_bit(octets, masks, byte, value);
+        free &= by_bit(group, row, 255, byte);
+        rows[row] = by_bit(group, row, byte, value);
         row += 1;
     }
-    least == 255
+    free == 255
 }
 
 // Gives the value to all rows; false if one of them is in another value already. It looks at all of
@@ -179,14 +73,14 @@ fn mark_all(rows: &mut [u8], value: u8) -> bool
     ensures { λ r. ⌜ (r ≡ everyRow (freeInGroup allOnes) 0 (now (rows .entry)))
         × (r ≡ true → now (rows .exit) ≡ eachRow (markedInGroup allOnes value) 0 (now (rows .entry))) ⌝ }
 {
-    let mut least: u8 = 255;
+    let mut free: u8 = 255;
     let mut row: usize = 0;
     while row < rows.len() {
-        least = least_of(least, rows[row]);
+        free &= rows[row];
         rows[row] = value;
         row += 1;
     }
-    least == 255
+    free == 255
 }
 
 // Gives the value to the rows of groups that all have the same bits; only uniform groups are more than

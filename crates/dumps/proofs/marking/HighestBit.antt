@@ -14,7 +14,13 @@ use Rattle.groups.proofs.Group.{bit-below}
 abbrev pub bit : ℕ → ℕ → ℕ
 bit group row = group / 2 ^ (30 - row % 31) % 2
 
--- its place, and how many zeros a word of 32 bits has above it
+-- the mask of a row
+pub row-mask : (row : ℕ) → row ≤ 30 → 0x40000000 / 2 ^ row ≡ 2 ^ (30 - row)
+row-mask row h =
+    let all : 30 - row + row ≡ 30 = omega arith in
+    ap (λ (n : ℕ). 2 ^ n / 2 ^ row) (sym all) ∙ rw pow-add (shl-shr (2 ^ (30 - row)) row)
+
+-- the highest bit's place, and how many zeros a word of 32 bits has above it
 pub record Top (rest zeros : ℕ) : Type 0 where
   pub place : ℕ
   pub placed : zeros + place ≡ 31
@@ -94,5 +100,5 @@ module _ (rest zeros : ℕ) (t : Top rest zeros) where
   -- the mask that the code takes away
   pub mask : 0x40000000 / 2 ^ (zeros - 1) ≡ 2 ^ (t .place)
   mask =
-      let all : t .place + (zeros - 1) ≡ 30 = omega (arith, t .placed, t .few) in
-      ap (λ (n : ℕ). 2 ^ n / 2 ^ (zeros - 1)) (sym all) ∙ rw pow-add (shl-shr (2 ^ (t .place)) (zeros - 1))
+      let place : 30 - (zeros - 1) ≡ t .place = omega (arith, t .placed, t .few) in
+      row-mask (zeros - 1) (omega (arith, t .placed)) ∙ ap (λ (n : ℕ). 2 ^ n) place
