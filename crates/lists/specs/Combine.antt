@@ -3,7 +3,7 @@ use mathlib.Core.Path.{_≡_}
 use mathlib.Core.Bool.{Bool, true}
 use mathlib.Core.List.{List, [], _∷_, _++_, map}
 use Prim.Native.Nat.{ℕ, zero, suc, _+_, _*_, _-_, _/_, _%_, _<_, _≤_}
-use lib.ListN.{length, getD, drop, replicate}
+use lib.ListN.{length, getD, take, drop, replicate}
 use Rattle.groups.specs.Rows.{allZero}
 use Rattle.words.specs.Words.{runOf, span, decode, noFill, wellFormed}
 use Rattle.words.specs.Writer.{Alone}
@@ -49,6 +49,11 @@ abbrev pub combined : Operation → List ℕ → List ℕ → List ℕ
 combined operation [] ys = []
 combined operation (x ∷ xs) [] = []
 combined operation (x ∷ xs) (y ∷ ys) = onGroup operation x y ∷ combined operation xs ys
+
+-- one group XORed into each of so many groups from a place on
+abbrev pub turnedFrom : List ℕ → ℕ → ℕ → ℕ → List ℕ
+turnedFrom groups at count group =
+    take at groups ++ (combined exclusive (take count (drop at groups)) (replicate count group) ++ drop count (drop at groups))
 
 -- no row is 1 in both of two lists of equally many groups
 unfoldable pub apart : List ℕ → List ℕ → Bool

@@ -1,11 +1,11 @@
 // Plain groups, one a word: the groups of a list turned over in them, and the rows that are taken.
 ghost use mathlib.Core.Path.{_≡_};
 ghost use mathlib.Core.List.{_++_};
-ghost use Prim.Native.Nat.{_<_, _≤_};
+ghost use Prim.Native.Nat.{_+_, _<_, _≤_};
 ghost use lib.ListN.{length, take, drop, replicate};
 ghost use Rattle.groups.specs.Rows.{Groups};
-ghost use Rattle.words.specs.Words.{decode};
-ghost use Rattle.lists.specs.Combine.{exclusive, either, combined, apart};
+ghost use Rattle.words.specs.Words.{runOf, span, groupIn, decode};
+ghost use Rattle.lists.specs.Combine.{exclusive, either, combined, turnedFrom, apart};
 use words::word::group_in;
 use words::word::span_of;
 
@@ -14,9 +14,6 @@ fn turn_over_each(groups: &mut [u32], group: u32)
     requires { ⌜ Groups (now groups) × (group < 0x80000000) ⌝ }
     ensures { λ _. ⌜ now (groups .exit) ≡ combined exclusive (now (groups .entry)) (replicate (length (now (groups .entry))) group) ⌝ }
 {
-    if group == 0 {
-        return;
-    }
     let mut i: usize = 0;
     while i < groups.len() {
         groups[i] ^= group;
@@ -24,8 +21,27 @@ fn turn_over_each(groups: &mut [u32], group: u32)
     }
 }
 
-// XORs the groups of a list into the first of some groups. Each word is opened once, and a fill of
-// zeros is passed at once.
+// XORs the groups of a word into those from a place on; answers the place behind them. Literals and fills
+// of zeros come in any order, so no branch tells them apart: a fill of zeros is one XOR with 0, where a
+// group is left.
+fn turn_over_word(groups: &mut [u32], at: usize, word: u32) -> usize
+    requires { ⌜ Groups (now groups) × (at + span (runOf word) ≤ length (now groups)) ⌝ }
+    ensures { λ r. ⌜ (r ≡ at + span (runOf word))
+        × (now (groups .exit) ≡ turnedFrom (now (groups .entry)) at (span (runOf word)) (groupIn (runOf word))) ⌝ }
+{
+    let group = group_in(word);
+    let end = at + span_of(word) as usize;
+    if 0xC0000000 <= word {
+        turn_over_each(&mut groups[at..end], group);
+        return end;
+    }
+    if at < groups.len() {
+        groups[at] ^= group;
+    }
+    end
+}
+
+// XORs the groups of a list into the first of some groups. Each word is opened once.
 pub fn turn_over_groups(list: &[u32], groups: &mut [u32])
     requires { ⌜ Groups (now groups) × (length (decode (now list)) ≤ length (now groups)) ⌝ }
     ensures { λ _. ⌜ now (groups .exit) ≡ combined exclusive (take (length (decode (now (list .entry)))) (now (groups .entry))) (decode (now (list .entry)))
@@ -34,10 +50,7 @@ pub fn turn_over_groups(list: &[u32], groups: &mut [u32])
     let mut at: usize = 0;
     let mut i: usize = 0;
     while i < list.len() {
-        let word = list[i];
-        let end = at + span_of(word) as usize;
-        turn_over_each(&mut groups[at..end], group_in(word));
-        at = end;
+        at = turn_over_word(groups, at, list[i]);
         i += 1;
     }
 }

@@ -15,7 +15,6 @@ use Rattle.groups.proofs.Zeros.{gathered-more, gathered-all}
 use Rattle.lists.specs.Combine.{exclusive, shared, either, combined, apart}
 use Rattle.lists.proofs.Operations.{xor-onGroup, and-onGroup, or-onGroup}
 use Rattle.lists.proofs.Combining.{length-combined, getD-combined}
-use Rattle.lists.proofs.Exclusive.{xor-zeros}
 
 -- ---- one list in the place of another
 
@@ -68,10 +67,6 @@ module _ (groups : List ℕ) (group : ℕ) where
     turned-at i h =
         xor-onGroup (getD groups i 0) group (small i) narrow
         ∙ sym (getD-combined exclusive groups (replicate (length groups) group) i same-count h ∙ rw (getD-replicate (length groups) i group 0 h) refl)
-
--- a group of zeros changes nothing
-pub turned-none : (groups : List ℕ) (group : ℕ) → Groups groups → group ≡ 0 → groups ≡ combined exclusive groups (replicate (length groups) group)
-turned-none groups group small none = rw none (sym (xor-zeros (length groups) groups small refl))
 
 -- ---- rows taken
 

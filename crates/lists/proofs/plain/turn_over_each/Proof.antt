@@ -3,7 +3,7 @@ use Prim.Native.Nat.{_-_}
 use native.Mathlib.Omega.{arith}
 use lib.ListN.{length, replicate}
 use Rattle.lists.specs.Combine.{exclusive, combined}
-use Rattle.lists.proofs.plain.Loops.{Replacing, begins, unread, replaces, replaced, turned-length, turned-at, turned-none}
+use Rattle.lists.proofs.plain.Loops.{Replacing, begins, unread, replaces, replaced, turned-length, turned-at}
 use Rattle.lists.proofs.plain.turn_over_each.Statement.{statement}
 use Rattle.lists.proofs.plain.turn_over_each.Tie as tie
 
@@ -13,15 +13,8 @@ Inv-loop groups₀ group i₀ groups i = Replacing groups₀ (combined exclusive
 abbrev μ-loop : tie.MeasureT-loop
 μ-loop groups₀ group i₀ groups i = length groups₀ - i
 
-returns : tie.Need-returns Inv-loop μ-loop
-returns c =
-    let start = c .before in
-    turned-none (start .args .groups .now) (start .args .group) (start .pre .0) (c .if1 .taken)
-
 loop-holds : tie.Need-loop-holds Inv-loop μ-loop
-loop-holds c =
-    let start = c .before in
-    begins (start .args .groups .now) _ (turned-length (start .args .groups .now) (start .args .group))
+loop-holds c = begins (c .args .groups .now) _ (turned-length (c .args .groups .now) (c .args .group))
 
 mul-groups : tie.Need-mul-groups Inv-loop μ-loop
 mul-groups c = omega arith
@@ -40,7 +33,7 @@ loop-less c = omega arith
 
 loop-again : tie.Need-loop-again Inv-loop μ-loop
 loop-again c =
-    let start = c .before .before .before .before in
+    let start = c .before .before .before in
     let loop = c .before .before .loop in
     replaces (loop .inv) (omega arith) _
     (rw (unread (loop .inv) (omega arith))
@@ -49,8 +42,8 @@ loop-again c =
 same-length : tie.Need-same-length Inv-loop μ-loop
 same-length c = c .before .loop .inv .same
 
-returns-2 : tie.Need-returns-2 Inv-loop μ-loop
-returns-2 c = replaced (c .before .loop .inv) (omega arith)
+returns : tie.Need-returns Inv-loop μ-loop
+returns c = replaced (c .before .loop .inv) (omega arith)
 
 pub turn-over-each-spec : {M : Type 1} → statement M
 turn-over-each-spec =
@@ -58,7 +51,6 @@ turn-over-each-spec =
     (tie.spec
     Inv-loop
     μ-loop
-    returns
     loop-holds
     mul-groups
     slice-read-groups
@@ -67,4 +59,4 @@ turn-over-each-spec =
     loop-less
     loop-again
     same-length
-    returns-2)
+    returns)
