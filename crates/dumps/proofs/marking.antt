@@ -1,4 +1,5 @@
--- What the proofs of marking use: the rows of one group, rows one by one, a whole group, and the spans of groups.
+-- What the proofs of marking use: rows copied, the rows of one group, rows one by one, a whole group, and the spans of groups.
+mod Copied
 mod HighestBit
 mod Marking
 mod Passing

@@ -3,7 +3,8 @@
 ghost use mathlib.Core.Path.{_≡_};
 ghost use mathlib.Core.Bool.{true};
 ghost use Prim.Native.Nat.{_+_, _-_, _<_, _≤_};
-ghost use lib.ListN.{length};
+ghost use lib.ListN.{length, drop};
+ghost use lib.Seq.{paste};
 ghost use Rattle.groups.specs.Rows.{groupsFor};
 ghost use Rattle.words.specs.Words.{allOnes};
 ghost use Rattle.words.specs.Writer.{Alone};
@@ -51,7 +52,7 @@ fn by_bit(group: u32, row: usize, clear: u8, set: u8) -> u8
 // Gives the value to each row of a whole group whose bit is 1; `rows` has the row behind the group too,
 // which stays as it is. All 32 are looked at: the loop is vectorised, sixteen at a time, and its masks are
 // computed by the compiler. (A table of them would be written to memory at each call.)
-fn mark_many(rows: &mut [u8], group: u32, value: u8) -> bool
+fn mark_whole(rows: &mut [u8], group: u32, value: u8) -> bool
     requires { ⌜ length (now rows) ≡ 32 ⌝ }
     ensures { λ r. ⌜ (r ≡ groupsHold (alike group) 0 1 31 (now (rows .entry)))
         × (r ≡ true → now (rows .exit) ≡ groupsMarked (alike group) 0 1 31 value (now (rows .entry))) ⌝ }
@@ -65,6 +66,34 @@ fn mark_many(rows: &mut [u8], group: u32, value: u8) -> bool
         row += 1;
     }
     free == 255
+}
+
+// Copies `count` rows to their places, from row `first` on.
+fn copy_rows(from: &[u8], to: &mut [u8], first: usize, count: usize)
+    requires { ⌜ (first + count ≤ length (now from)) × (first + count ≤ length (now to)) ⌝ }
+    ensures { λ _. ⌜ now (to .exit) ≡ paste (now (to .entry)) first (drop first (now (from .entry))) count ⌝ }
+{
+    let mut i: usize = 0;
+    while i < count {
+        to[first + i] = from[first + i];
+        i += 1;
+    }
+}
+
+// The same in other bytes, of which 31 come back: the next group's rows, which begin with the row behind
+// this one's, are read sixteen at a time, and such a load waits if one of its bytes was just written.
+fn mark_many(rows: &mut [u8], group: u32, value: u8) -> bool
+    requires { ⌜ length (now rows) ≡ 32 ⌝ }
+    ensures { λ r. ⌜ (r ≡ groupsHold (alike group) 0 1 31 (now (rows .entry)))
+        × (r ≡ true → now (rows .exit) ≡ groupsMarked (alike group) 0 1 31 value (now (rows .entry))) ⌝ }
+{
+    let mut marked = [0u8; 32];
+    copy_rows(rows, &mut marked, 0, 32);
+    let free = mark_whole(&mut marked, group, value);
+    copy_rows(&marked, rows, 0, 16);
+    copy_rows(&marked, rows, 16, 8);
+    copy_rows(&marked, rows, 23, 8);
+    free
 }
 
 // Gives the value to all rows; false if one of them is in another value already. It looks at all of

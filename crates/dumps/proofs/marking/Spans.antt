@@ -85,7 +85,7 @@ module _ (reading : ℕ → Reading) (issued : ℕ) where
     before-span : (row : ℕ) → row < from * 31 → inSpan from to issued row ≡ false
     before-span row h = rw (lt-leb from (row / 31) (omega arith)) refl
 
-    behind-span : (row : ℕ) → min (to * 31) issued ≤ row → inSpan from to issued row ≡ false
+    pub behind-span : (row : ℕ) → min (to * 31) issued ≤ row → inSpan from to issued row ≡ false
     behind-span row h = go (ltb row issued) refl
       where
         go : (t : Bool) → ltb row issued ≡ t → inSpan from to issued row ≡ false

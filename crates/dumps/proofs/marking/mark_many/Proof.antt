@@ -1,66 +1,76 @@
--- `mark_many` meets its contract. The loop's invariant is `Passing`: the rows before `row` are told and marked. Assumes nothing.
-use Prim.Native.Nat.{_-_}
-use native.Mathlib.Omega.{arith}
-use Rattle.dumps.specs.Dump.{freeInGroups, markedInGroups, groupsHold, groupsMarked, alike}
-use Rattle.dumps.proofs.marking.Passing.{Passing, begin, ends}
-use Rattle.dumps.proofs.marking.Whole.{next-many}
+-- `mark_many` meets its contract: the rows are copied, marked, and copied back in three parts. Assumes nothing.
+use mathlib.Core.Path.{_≡_, refl, _∙_, ap}
+use lib.ListN.{length, replicate}
+use borrow.Author.Needs.{needs}
+use Rattle.dumps.specs.Dump.{groupsHold, groupsMarked, alike}
+use Rattle.dumps.proofs.marking.Copied.{copied-whole, copied-back}
+use Rattle.dumps.proofs.marking.Whole.{comes-back}
 use Rattle.dumps.proofs.marking.mark_many.Statement.{statement}
 use Rattle.dumps.proofs.marking.mark_many.Tie as tie
 
-abbrev Inv-loop : tie.InvT-loop
-Inv-loop rows₀ group value free₀ row₀ rows free row =
-    Passing (freeInGroups (alike group) 0 1 31) (markedInGroups (alike group) 0 1 31 value) rows₀ rows free row
+slice-aggregate-copy-rows : tie.Need-slice-aggregate-copy-rows
+slice-aggregate-copy-rows c = search needs
 
-abbrev μ-loop : tie.MeasureT-loop
-μ-loop rows₀ group value free₀ row₀ rows free row = 32 - row
+copy-rows-requires : tie.Need-copy-rows-requires
+copy-rows-requires c κs = search needs
 
-loop-holds : tie.Need-loop-holds Inv-loop μ-loop
-loop-holds c = begin _ _ (c .before .args .rows .now)
+slice-aggregate-mark-whole : tie.Need-slice-aggregate-mark-whole
+slice-aggregate-mark-whole c = search needs
 
-slice-read-byte : tie.Need-slice-read-byte Inv-loop μ-loop
-slice-read-byte c = omega arith
+mark-whole-requires : tie.Need-mark-whole-requires
+mark-whole-requires c κs = search needs
 
-by-bit-requires : tie.Need-by-bit-requires Inv-loop μ-loop
-by-bit-requires c κs = omega arith
+slice-aggregate-copy-rows-2 : tie.Need-slice-aggregate-copy-rows-2
+slice-aggregate-copy-rows-2 c = search needs
 
-by-bit-requires-2 : tie.Need-by-bit-requires-2 Inv-loop μ-loop
-by-bit-requires-2 c κs = omega arith
+copy-rows-requires-2 : tie.Need-copy-rows-requires-2
+copy-rows-requires-2 c κs = search needs
 
-slice-write-rows : tie.Need-slice-write-rows Inv-loop μ-loop
-slice-write-rows c = omega arith
+slice-aggregate-copy-rows-3 : tie.Need-slice-aggregate-copy-rows-3
+slice-aggregate-copy-rows-3 c = search needs
 
-add-row : tie.Need-add-row Inv-loop μ-loop
-add-row c = omega arith
+copy-rows-requires-3 : tie.Need-copy-rows-requires-3
+copy-rows-requires-3 c κs = search needs
 
-loop-less : tie.Need-loop-less Inv-loop μ-loop
-loop-less c = omega arith
+slice-aggregate-copy-rows-4 : tie.Need-slice-aggregate-copy-rows-4
+slice-aggregate-copy-rows-4 c = search needs
 
-loop-again : tie.Need-loop-again Inv-loop μ-loop
-loop-again c =
-    let loop = c .before .before .before .before .loop in
-    let byte = c .before .before .slice-known2 .given (loop .row) in
-    next-many _ _ (loop .inv) (omega arith) (omega (arith, byte)) _ _ (c .before .by-bit .ensures) (c .by-bit2 .ensures)
+copy-rows-requires-4 : tie.Need-copy-rows-requires-4
+copy-rows-requires-4 c κs = search needs
 
-same-length : tie.Need-same-length Inv-loop μ-loop
-same-length c = c .before .loop .inv .same
+same-length : tie.Need-same-length
+same-length c = search needs
 
-returns : tie.Need-returns Inv-loop μ-loop
-unfolding groupsHold groupsMarked
-returns c = let all = ends _ _ (c .before .loop .inv) (omega arith) in (all .0, λ held. all .1)
+returns : tie.Need-returns
+returns c =
+    let third = c .before .before in
+    let second = third .before .before .before .before .before in
+    let first = second .before .before .before .before .before in
+    let marked = first .before .before .before .before in
+    let copied = marked .before .before .before in
+    let start = copied .before .before .before .before in
+    let rows = start .args .rows .now in
+    let own : length (marked .mark-whole .last .0) ≡ 32 = search needs in
+    let same = copied-whole rows (replicate 32 0) (start .pre) refl (copied .copy-rows .last .1 .0) (copied .copy-rows .ensures) in
+    let back = copied-back rows (marked .mark-whole .last .0) (start .pre) own _ _ _ (first .copy-rows2 .ensures) (second .copy-rows3 .ensures) (third .copy-rows4 .ensures) in (
+      marked .mark-whole .ensures .0 ∙ ap (groupsHold (alike (start .args .group)) 0 1 31) same,
+      λ held. back ∙ comes-back (start .args .group) (start .args .value) rows (start .pre) (marked .mark-whole .last .0)
+          (marked .mark-whole .ensures .1 held ∙ ap (groupsMarked (alike (start .args .group)) 0 1 31 (start .args .value)) same),
+    )
 
 pub mark-many-spec : {M : Type 1} → statement M
 mark-many-spec =
     tie.close
     (tie.spec
-    Inv-loop
-    μ-loop
-    loop-holds
-    slice-read-byte
-    by-bit-requires
-    by-bit-requires-2
-    slice-write-rows
-    add-row
-    loop-less
-    loop-again
+    slice-aggregate-copy-rows
+    copy-rows-requires
+    slice-aggregate-mark-whole
+    mark-whole-requires
+    slice-aggregate-copy-rows-2
+    copy-rows-requires-2
+    slice-aggregate-copy-rows-3
+    copy-rows-requires-3
+    slice-aggregate-copy-rows-4
+    copy-rows-requires-4
     same-length
     returns)
