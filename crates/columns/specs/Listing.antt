@@ -1,12 +1,13 @@
--- A list that is written group by group: one group more, and the step that takes it in.
+-- A list that is written group by group: the step that takes in a sparse group, and what it means to take in some groups more.
 use mathlib.Core.Path.{_≡_}
-use mathlib.Core.Bool.{cond}
-use mathlib.Core.List.{List, [], _∷_}
-use Prim.Native.Nat.{ℕ, _+_, _≤_}
+use mathlib.Core.Bool.{Bool, true, cond, _&&_, _||_}
+use mathlib.Core.List.{List, [], _∷_, _++_}
+use Prim.Native.Nat.{ℕ, _+_, _<_, _≤_}
 use lib.Dec.{eqb}
+use lib.ListN.{length, getD}
 use lib.Seq.{sets}
-use Rattle.words.specs.Words.{fill, wordOf}
-use Rattle.words.specs.Writer.{written, Takes}
+use Rattle.words.specs.Words.{fill, wordOf, allOnes, encode}
+use Rattle.words.specs.Writer.{after}
 use Rattle.words.specs.declared.writer.Pending.{Pending}
 use Rattle.words.specs.declared.writer.Step.{Step}
 use Rattle.columns.specs.declared.listing.Listed.{Listed}
@@ -20,14 +21,28 @@ abbrev pub sparseStep : ℕ → ℕ → Step
 sparseStep zeros group =
     cond (eqb group 0) (stepOf 0 0 0 (zeros + 1)) (cond (eqb zeros 0) (stepOf 1 group 0 0) (stepOf 2 (wordOf (fill 0 zeros)) group 0))
 
--- the words of a group fit into an output, whichever step takes it in
-abbrev pub Fits : Pending → ℕ → ℕ → ℕ → Type 0
-Fits pending group at room = (step : Step) → Takes pending (group ∷ []) step → at + step .words ≤ room
+-- whether each of some groups is the one given
+abbrev pub allAlike : ℕ → List ℕ → Bool
+allAlike group [] = true
+allAlike group (next ∷ groups) = eqb next group && allAlike group groups
 
--- a step took one group more in
-pub record Follows (pending : Pending) (group at : ℕ) (out : List ℕ) (listed : Listed) (left : List ℕ) : Type 0 where
-  pub step : Step
-  pub takes : Takes pending (group ∷ []) step
-  pub counts : listed .written ≡ at + step .words
-  pub keeps : listed .pending ≡ step .pending
-  pub writes : left ≡ sets out at (written step)
+-- whether some groups are eight of one bit
+abbrev pub oneRun : List ℕ → Bool
+oneRun groups = eqb (length groups) 8 && (allAlike (getD groups 0 0) groups && (eqb (getD groups 0 0) 0 || eqb (getD groups 0 0) allOnes))
+
+-- some groups can be taken in: the words of these and of those behind them fit, and 0 stands from there on
+pub record Fits (pending : Pending) (groups : List ℕ) (at : ℕ) (out : List ℕ) : Type 0 where
+  pub isBit : pending .bit < 2
+  pub few : pending .count + length groups < 0x40000000
+  pub behind : List ℕ
+  pub room : at + length (encode (after pending (groups ++ behind))) ≤ length out
+  pub clear : (place : ℕ) → at ≤ place → getD out place 0 ≡ 0
+
+-- some groups were taken in: whatever groups follow, the words of all are those written and then those of what is pending
+pub record Follows (pending : Pending) (groups : List ℕ) (at : ℕ) (out : List ℕ) (listed : Listed) (left : List ℕ) : Type 0 where
+  pub words : List ℕ
+  pub law : (rest : List ℕ) → encode (after pending (groups ++ rest)) ≡ words ++ encode (after (listed .pending) rest)
+  pub isBit : listed .pending .bit < 2
+  pub grows : listed .pending .count ≤ pending .count + length groups
+  pub counts : listed .written ≡ at + length words
+  pub writes : left ≡ sets out at words

@@ -1,21 +1,22 @@
 // Load's part for one value: its groups, which stand in the room of V, become its list there.
 ghost use mathlib.Core.Path.{_≡_};
 ghost use mathlib.Core.Bool.{cond};
-ghost use mathlib.Core.List.{_++_};
+ghost use mathlib.Core.List.{[], _∷_, _++_};
 ghost use Prim.Native.Nat.{ℕ, _+_, _<_, _≤_};
 ghost use lib.Dec.{eqb};
 ghost use lib.ListN.{length, getD, drop, replicate};
 ghost use lib.Seq.{sets};
 ghost use Rattle.words.specs.Words.{encode};
-ghost use Rattle.words.specs.Writer.{Takes, written};
+ghost use Rattle.words.specs.Writer.{Alone, Takes, written};
 ghost use Rattle.blocks.specs.Shape.{Limits, blockSize};
 ghost use Rattle.blocks.specs.Block.{part, write, padded};
 ghost use Rattle.columns.specs.Column.{packedBlock};
-ghost use Rattle.columns.specs.Listing.{sparseStep, Fits, Follows};
+ghost use Rattle.columns.specs.Listing.{sparseStep, allAlike, oneRun, Fits, Follows};
 use blocks::put::clear_update;
 use blocks::put::put_value;
 use blocks::shape::Shape;
 use groups::rows::GROUP_LIMIT;
+use groups::rows::smaller;
 use words::word::ALL_ONES;
 use words::word::fill_word;
 use words::writer::Pending;
@@ -23,6 +24,9 @@ use words::writer::Step;
 use words::writer::finish;
 use words::writer::next_step;
 use words::writer::store;
+
+// How many groups of a list are looked at together.
+const PART: usize = 8;
 
 // `count` groups without a 1 come after a pending run; `count` may be 0.
 fn step_zeros(pending: Pending, count: u32) -> Step
@@ -75,12 +79,12 @@ fn put_sparse(out: &mut [u32], at: usize, zeros: u32, group: u32) -> usize
     next + held
 }
 
-// Writes the words of any group.
-fn put_step(out: &mut [u32], at: usize, pending: Pending, group: u32) -> Listed
-    requires { ⌜ (pending .bit < 2) × (pending .count + 1 < 0x40000000) × Fits pending group at (length (now out)) ⌝ }
-    ensures { λ r. ⌜ Follows pending group at (now (out .entry)) r (now (out .exit)) ⌝ }
+// Writes the words of `count` times one group; more than once only where the group is uniform.
+fn put_step(out: &mut [u32], at: usize, pending: Pending, group: u32, count: u32) -> Listed
+    requires { ⌜ Fits pending (replicate count group) at (now out) × (0 < count) × Alone group count ⌝ }
+    ensures { λ r. ⌜ Follows pending (replicate count group) at (now (out .entry)) r (now (out .exit)) ⌝ }
 {
-    let step = next_step(pending, group, 1);
+    let step = next_step(pending, group, count);
     let written = store(out, at, step);
     let after = step.pending;
     Listed {
@@ -89,16 +93,16 @@ fn put_step(out: &mut [u32], at: usize, pending: Pending, group: u32) -> Listed
     }
 }
 
-// Takes one group more into a list, at a place where 0 stands.
+// Takes one group more into a list.
 fn put_group(out: &mut [u32], at: usize, pending: Pending, group: u32) -> Listed
-    requires { ⌜ (pending .bit < 2) × (pending .count + 1 < 0x40000000) × Fits pending group at (length (now out)) × (at < length (now out)) × (getD (now out) at 0 ≡ 0) ⌝ }
-    ensures { λ r. ⌜ Follows pending group at (now (out .entry)) r (now (out .exit)) ⌝ }
+    requires { ⌜ Fits pending (group ∷ []) at (now out) ⌝ }
+    ensures { λ r. ⌜ Follows pending (group ∷ []) at (now (out .entry)) r (now (out .exit)) ⌝ }
 {
     if group == ALL_ONES {
-        return put_step(out, at, pending, group);
+        return put_step(out, at, pending, group, 1);
     }
     if pending.bit == 1 {
-        return put_step(out, at, pending, group);
+        return put_step(out, at, pending, group, 1);
     }
     let written = put_sparse(out, at, pending.count, group);
     let zeros = zeros_after(pending.count, group);
@@ -111,6 +115,67 @@ fn put_group(out: &mut [u32], at: usize, pending: Pending, group: u32) -> Listed
     }
 }
 
+// Takes some groups into a list, one after the other.
+fn put_each(out: &mut [u32], at: usize, pending: Pending, groups: &[u32]) -> Listed
+    requires { ⌜ Fits pending (now groups) at (now out) ⌝ }
+    ensures { λ r. ⌜ Follows pending (now (groups .entry)) at (now (out .entry)) r (now (out .exit)) ⌝ }
+{
+    let mut listed = Listed {
+        written: at,
+        pending: pending,
+    };
+    let mut i: usize = 0;
+    while i < groups.len() {
+        listed = put_group(out, listed.written, listed.pending, groups[i]);
+        i += 1;
+    }
+    listed
+}
+
+// Whether eight groups are all the one given. It looks at all of them: without an early end the loop is
+// vectorised.
+fn all_alike(groups: &[u32], group: u32) -> bool
+    requires { ⌜ length (now groups) ≡ 8 ⌝ }
+    ensures { λ r. ⌜ r ≡ allAlike group (now (groups .entry)) ⌝ }
+{
+    let mut difference: u32 = 0;
+    let mut i: usize = 0;
+    while i < PART {
+        difference |= groups[i] ^ group;
+        i += 1;
+    }
+    difference == 0
+}
+
+// Whether some groups are one run. Whether they are alike is asked first: a column's groups with and
+// without a 1 come in no order, and are seldom alike.
+fn one_run(groups: &[u32]) -> bool
+    ensures { λ r. ⌜ r ≡ oneRun (now (groups .entry)) ⌝ }
+{
+    if groups.len() != PART {
+        return false;
+    }
+    let first = groups[0];
+    if !all_alike(groups, first) {
+        return false;
+    }
+    if first == 0 {
+        return true;
+    }
+    first == ALL_ONES
+}
+
+// Takes some groups into a list: one run of them at once.
+fn put_part(out: &mut [u32], at: usize, pending: Pending, groups: &[u32]) -> Listed
+    requires { ⌜ Fits pending (now groups) at (now out) ⌝ }
+    ensures { λ r. ⌜ Follows pending (now (groups .entry)) at (now (out .entry)) r (now (out .exit)) ⌝ }
+{
+    if one_run(groups) {
+        return put_step(out, at, pending, groups[0], 8);
+    }
+    put_each(out, at, pending, groups)
+}
+
 // Writes the list of some groups, all zero behind them up to `total`, over zeros; answers its length.
 // One step takes in those behind.
 fn list_into(groups: &[u32], total: u32, out: &mut [u32]) -> usize
@@ -118,18 +183,19 @@ fn list_into(groups: &[u32], total: u32, out: &mut [u32]) -> usize
     ensures { λ r. ⌜ (r ≡ length (encode (padded total (now (groups .entry)))))
         × (now (out .exit) ≡ encode (padded total (now (groups .entry))) ++ drop r (now (out .entry))) ⌝ }
 {
-    let mut pending = Pending { bit: 0, count: 0 };
-    let mut written: usize = 0;
+    let mut listed = Listed {
+        written: 0,
+        pending: Pending { bit: 0, count: 0 },
+    };
     let mut i: usize = 0;
     while i < groups.len() {
-        let listed = put_group(out, written, pending, groups[i]);
-        written = listed.written;
-        pending = listed.pending;
-        i += 1;
+        let end = smaller(i + PART, groups.len());
+        listed = put_part(out, listed.written, listed.pending, &groups[i..end]);
+        i = end;
     }
     let behind = total - i as u32;
-    let step = step_zeros(pending, behind);
-    written = store(out, written, step);
+    let step = step_zeros(listed.pending, behind);
+    let written = store(out, listed.written, step);
     finish(out, written, step.pending)
 }
 

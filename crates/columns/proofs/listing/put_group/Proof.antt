@@ -3,13 +3,14 @@ use mathlib.Core.List.{_∷_, []}
 use native.Mathlib.Omega.{arith}
 use Rattle.words.specs.Writer.{Takes}
 use Rattle.columns.specs.Listing.{sparseStep}
+use Rattle.columns.proofs.listing.Loop.{some-room, step-fits, follows-step}
 use Rattle.columns.proofs.listing.Sparse.{sparse-after, sparse-pending}
 use borrow.Author.Needs.{needs}
 use Rattle.columns.proofs.listing.put_group.Statement.{statement}
 use Rattle.columns.proofs.listing.put_group.Tie as tie
 
 put-step-requires : tie.Need-put-step-requires
-put-step-requires c κs = search needs
+put-step-requires c κs = (c .before .before .before .pre, omega arith, λ mixed dense. omega arith)
 
 same-length : tie.Need-same-length
 same-length c = search needs
@@ -18,7 +19,7 @@ returns : tie.Need-returns
 returns c = search needs
 
 put-step-requires-2 : tie.Need-put-step-requires-2
-put-step-requires-2 c κs = search needs
+put-step-requires-2 c κs = (c .before .before .before .before .before .pre, omega arith, λ mixed dense. omega arith)
 
 same-length-2 : tie.Need-same-length-2
 same-length-2 c = search needs
@@ -32,12 +33,12 @@ sparse : (c : tie.Else2)
     Takes (a .pending) (a .group ∷ []) (sparseStep (a .pending .count) (a .group))
 sparse c =
     let start = c .before .before .before .before in
-    sparse-after (start .args .pending) (start .args .group) (omega (arith, c .if2 .left, start .pre .0)) (c .before .before .if1 .left)
+    sparse-after (start .args .pending) (start .args .group) (omega (arith, c .if2 .left, start .pre .isBit)) (c .before .before .if1 .left)
 
 put-sparse-requires : tie.Need-put-sparse-requires
 put-sparse-requires c κs =
     let start = c .before .before .before .before .before in
-    (omega arith, start .pre .3, start .pre .4, start .pre .2 (sparseStep (start .args .pending .count) (start .args .group)) (sparse (c .before)))
+    (omega arith, some-room (start .pre) (omega arith), start .pre .clear (start .args .at) (omega arith), step-fits (start .pre) (sparse (c .before)))
 
 zeros-after-requires : tie.Need-zeros-after-requires
 zeros-after-requires c κs = search needs
@@ -49,13 +50,8 @@ returns-3 : tie.Need-returns-3
 returns-3 c =
     let a = c .before .before .before .before .before .before .before .before .before .args in
     let put = c .before .before .before .put-sparse .ensures in
-    record {
-      step = sparseStep (a .pending .count) (a .group);
-      takes = sparse (c .before .before .before .before .before);
-      counts = put .0;
-      keeps = sparse-pending (a .pending .count) (a .group) (c .zeros-after .result) (c .zeros-after .ensures);
-      writes = put .1;
-    }
+    follows-step (sparse (c .before .before .before .before .before)) (put .0)
+    (sparse-pending (a .pending .count) (a .group) (c .zeros-after .result) (c .zeros-after .ensures)) (put .1)
 
 pub put-group-spec : {M : Type 1} → statement M
 put-group-spec =
