@@ -1,8 +1,8 @@
 -- A list that is written group by group: the step that takes in a sparse group, and what it means to take in some groups more.
 use mathlib.Core.Path.{_≡_}
-use mathlib.Core.Bool.{Bool, true, cond, _&&_, _||_}
+use mathlib.Core.Bool.{Bool, true, cond, _&&_}
 use mathlib.Core.List.{List, [], _∷_, _++_}
-use Prim.Native.Nat.{ℕ, _+_, _<_, _≤_}
+use Prim.Native.Nat.{ℕ, _+_, _*_, _<_, _≤_}
 use lib.Dec.{eqb}
 use lib.ListN.{length, getD}
 use lib.Seq.{sets}
@@ -21,14 +21,14 @@ abbrev pub sparseStep : ℕ → ℕ → Step
 sparseStep zeros group =
     cond (eqb group 0) (stepOf 0 0 0 (zeros + 1)) (cond (eqb zeros 0) (stepOf 1 group 0 0) (stepOf 2 (wordOf (fill 0 zeros)) group 0))
 
--- whether each of some groups is the one given
+-- whether each of some numbers is the one given
 abbrev pub allAlike : ℕ → List ℕ → Bool
-allAlike group [] = true
-allAlike group (next ∷ groups) = eqb next group && allAlike group groups
+allAlike number [] = true
+allAlike number (next ∷ numbers) = eqb next number && allAlike number numbers
 
 -- whether some groups are eight of one bit
-abbrev pub oneRun : List ℕ → Bool
-oneRun groups = eqb (length groups) 8 && (allAlike (getD groups 0 0) groups && (eqb (getD groups 0 0) 0 || eqb (getD groups 0 0) allOnes))
+abbrev pub eightOf : ℕ → List ℕ → Bool
+eightOf bit groups = eqb (length groups) 8 && allAlike (bit * allOnes) groups
 
 -- some groups can be taken in: the words of these and of those behind them fit, and 0 stands from there on
 pub record Fits (pending : Pending) (groups : List ℕ) (at : ℕ) (out : List ℕ) : Type 0 where

@@ -7,11 +7,11 @@ ghost use lib.Dec.{eqb};
 ghost use lib.ListN.{length, getD, drop, replicate};
 ghost use lib.Seq.{sets};
 ghost use Rattle.words.specs.Words.{encode};
-ghost use Rattle.words.specs.Writer.{Alone, Takes, written};
+ghost use Rattle.words.specs.Writer.{Takes, written};
 ghost use Rattle.blocks.specs.Shape.{Limits, blockSize};
 ghost use Rattle.blocks.specs.Block.{part, write, padded};
 ghost use Rattle.columns.specs.Column.{packedBlock};
-ghost use Rattle.columns.specs.Listing.{sparseStep, allAlike, oneRun, Fits, Follows};
+ghost use Rattle.columns.specs.Listing.{sparseStep, allAlike, eightOf, Fits, Follows};
 use blocks::put::clear_update;
 use blocks::put::put_value;
 use blocks::shape::Shape;
@@ -79,12 +79,12 @@ fn put_sparse(out: &mut [u32], at: usize, zeros: u32, group: u32) -> usize
     next + held
 }
 
-// Writes the words of `count` times one group; more than once only where the group is uniform.
-fn put_step(out: &mut [u32], at: usize, pending: Pending, group: u32, count: u32) -> Listed
-    requires { ⌜ Fits pending (replicate count group) at (now out) × (0 < count) × Alone group count ⌝ }
-    ensures { λ r. ⌜ Follows pending (replicate count group) at (now (out .entry)) r (now (out .exit)) ⌝ }
+// Writes the words of any group.
+fn put_step(out: &mut [u32], at: usize, pending: Pending, group: u32) -> Listed
+    requires { ⌜ Fits pending (group ∷ []) at (now out) ⌝ }
+    ensures { λ r. ⌜ Follows pending (group ∷ []) at (now (out .entry)) r (now (out .exit)) ⌝ }
 {
-    let step = next_step(pending, group, count);
+    let step = next_step(pending, group, 1);
     let written = store(out, at, step);
     let after = step.pending;
     Listed {
@@ -99,10 +99,10 @@ fn put_group(out: &mut [u32], at: usize, pending: Pending, group: u32) -> Listed
     ensures { λ r. ⌜ Follows pending (group ∷ []) at (now (out .entry)) r (now (out .exit)) ⌝ }
 {
     if group == ALL_ONES {
-        return put_step(out, at, pending, group, 1);
+        return put_step(out, at, pending, group);
     }
     if pending.bit == 1 {
-        return put_step(out, at, pending, group, 1);
+        return put_step(out, at, pending, group);
     }
     let written = put_sparse(out, at, pending.count, group);
     let zeros = zeros_after(pending.count, group);
@@ -147,31 +147,33 @@ fn all_alike(groups: &[u32], group: u32) -> bool
     difference == 0
 }
 
-// Whether some groups are one run. Whether they are alike is asked first: a column's groups with and
-// without a 1 come in no order, and are seldom alike.
-fn one_run(groups: &[u32]) -> bool
-    ensures { λ r. ⌜ r ≡ oneRun (now (groups .entry)) ⌝ }
+// Whether some groups are eight of one bit.
+fn eight_of(groups: &[u32], bit: u32) -> bool
+    requires { ⌜ bit < 2 ⌝ }
+    ensures { λ r. ⌜ r ≡ eightOf bit (now (groups .entry)) ⌝ }
 {
     if groups.len() != PART {
         return false;
     }
-    let first = groups[0];
-    if !all_alike(groups, first) {
-        return false;
-    }
-    if first == 0 {
-        return true;
-    }
-    first == ALL_ONES
+    all_alike(groups, bit * ALL_ONES)
 }
 
-// Takes some groups into a list: one run of them at once.
+// Takes some groups into a list. Eight that only make the pending run longer are counted and not looked
+// at one by one; a run that begins among them goes on in the groups behind.
 fn put_part(out: &mut [u32], at: usize, pending: Pending, groups: &[u32]) -> Listed
     requires { ⌜ Fits pending (now groups) at (now out) ⌝ }
     ensures { λ r. ⌜ Follows pending (now (groups .entry)) at (now (out .entry)) r (now (out .exit)) ⌝ }
 {
-    if one_run(groups) {
-        return put_step(out, at, pending, groups[0], 8);
+    let bit = pending.bit;
+    if eight_of(groups, bit) {
+        let longer = pending.count + PART as u32;
+        return Listed {
+            written: at,
+            pending: Pending {
+                bit: bit,
+                count: longer,
+            },
+        };
     }
     put_each(out, at, pending, groups)
 }

@@ -11,7 +11,7 @@ use Rattle.words.specs.Words.{Run, uniform, runsOf, encode}
 use Rattle.words.specs.Writer.{after, written, lastWords, Takes}
 use Rattle.words.specs.declared.writer.Pending.{Pending}
 use Rattle.words.specs.declared.writer.Step.{Step}
-use Rattle.words.proofs.Runs.{by-fill, by-group}
+use Rattle.words.proofs.Runs.{by-fill, by-group, joins}
 use Rattle.words.proofs.Size.{encode-length}
 use Rattle.words.proofs.Writing.{written-length}
 use Rattle.blocks.specs.Block.{padded}
@@ -68,6 +68,19 @@ follows-step {step = step} t counts keeps writes =
       grows = rw keeps (t .grows);
       counts = rw (written-length step (t .few)) counts;
       writes = writes;
+    }
+
+-- groups that make the pending run longer
+pub follows-run : (pending : Pending) (count at : ℕ) (out : List ℕ) → pending .bit < 2
+    → Follows pending (uniform (pending .bit) count) at out (record { written = at; pending = record { bit = pending .bit; count = pending .count + count } }) out
+follows-run pending count at out isBit =
+    record {
+      words = [];
+      law = λ rest. ap encode (joins (pending .bit) (pending .count) count rest);
+      isBit = isBit;
+      grows = rw length-replicate (omega arith);
+      counts = omega arith;
+      writes = refl;
     }
 
 module _ {pending : Pending} {groups : List ℕ} {at : ℕ} {out : List ℕ} (p : Fits pending groups at out) where

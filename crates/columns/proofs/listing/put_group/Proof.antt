@@ -10,7 +10,7 @@ use Rattle.columns.proofs.listing.put_group.Statement.{statement}
 use Rattle.columns.proofs.listing.put_group.Tie as tie
 
 put-step-requires : tie.Need-put-step-requires
-put-step-requires c κs = (c .before .before .before .pre, omega arith, λ mixed dense. omega arith)
+put-step-requires c κs = search needs
 
 same-length : tie.Need-same-length
 same-length c = search needs
@@ -19,7 +19,7 @@ returns : tie.Need-returns
 returns c = search needs
 
 put-step-requires-2 : tie.Need-put-step-requires-2
-put-step-requires-2 c κs = (c .before .before .before .before .before .pre, omega arith, λ mixed dense. omega arith)
+put-step-requires-2 c κs = search needs
 
 same-length-2 : tie.Need-same-length-2
 same-length-2 c = search needs
