@@ -1,16 +1,30 @@
 -- The group of each value is put at one place of the value's block, a value at a time. Assumes nothing.
-use mathlib.Core.Path.{_≡_, refl, _∙_}
+use mathlib.Core.Path.{_≡_, refl, _∙_, sym}
+use mathlib.Core.Bool.{Bool, true, false, cond}
 use mathlib.Core.Logic.{by-cases}
 use mathlib.Core.List.{List}
-use Prim.Native.Nat.{ℕ, _+_, _*_, _<_}
+use Prim.Native.Nat.{ℕ, _+_, _*_, _<_, _≤_}
 use native.Mathlib.Decide.{decLt}
 use native.Mathlib.Nat.{suc-mul}
 use native.Mathlib.Numerals.{add-one}
 use native.Mathlib.Omega.{arith}
-use lib.ListN.{length, set, length-set}
+use lib.Dec.{eqb}
+use lib.ListN.{length, getD, set, length-set}
 use lib.Seq.{getD-set-same, getD-set-other}
+use borrow.Author.Tests.{eqb-true, eqb-false, ne-eqb}
+use Rattle.words.specs.Words.{allOnes}
 use Rattle.blocks.proofs.Sizes.{place-fits}
-use Rattle.columns.specs.Spread.{Placed}
+use Rattle.columns.specs.Spread.{Clear, Placed}
+
+-- a place is in one block alone
+pub same-block : (block value other place spot : ℕ) → place < block → spot < block → value * block + place ≡ other * block + spot → value ≡ other
+same-block block value other place spot p q met =
+    by-cases (decLt value other)
+    (λ less. absurd (omega (arith, met, place-fits block value other less)))
+    (λ more.
+    by-cases (decLt other value)
+    (λ less. absurd (omega (arith, met, place-fits block other value less)))
+    (λ least. omega (arith, more, least)))
 
 pub place-none : (block place : ℕ) (groups : ℕ → ℕ) (words : List ℕ) → Placed 0 block place groups words words
 place-none block place groups words = record { same = refl; put = λ value below. absurd (omega arith); kept = λ i apart. refl }
@@ -42,3 +56,34 @@ place-more {value} {block} {place} {groups} {words} {left} p some at here inside
 pub place-same : {values block place : ℕ} {groups same : ℕ → ℕ} {words left : List ℕ} → Placed values block place groups words left
     → ((value : ℕ) → value < values → groups value ≡ same value) → Placed values block place same words left
 place-same p each = record { same = p .same; put = λ value below. p .put value below ∙ each value below; kept = p .kept }
+
+-- the groups of one value's rows: one word where 0 stands, and none for a byte that is no value
+module _ {values block place : ℕ} (byte : ℕ) (words : List ℕ) (some : place < block) (clear : Clear values block place words) where
+  pub place-whole : byte < values → byte * block + place < length words
+      → Placed values block place (λ value. cond (eqb byte value) allOnes 0) words (set words (byte * block + place) allOnes)
+  place-whole below inside =
+      record {
+        same = length-set words (byte * block + place) allOnes;
+        put = λ value h. go value h (eqb byte value) refl;
+        kept = λ i apart. getD-set-other words (byte * block + place) i allOnes 0 (λ met. apart byte below met);
+      }
+    where
+      go : (value : ℕ) → value < values → (held : Bool) → eqb byte value ≡ held
+          → getD (set words (byte * block + place) allOnes) (value * block + place) 0 ≡ cond (eqb byte value) allOnes 0
+      go value h true e =
+          rw (e, ← eqb-true byte value e, getD-set-same words (byte * block + place) allOnes 0 inside) refl
+      go value h false e =
+          rw (
+            e,
+            getD-set-other words (byte * block + place) (value * block + place) allOnes 0
+                (λ met. eqb-false byte value e (sym (same-block block value byte place place some some met))),
+          )
+          (clear value h)
+
+  pub place-nowhere : values ≤ byte → Placed values block place (λ value. cond (eqb byte value) allOnes 0) words words
+  place-nowhere past =
+      record {
+        same = refl;
+        put = λ value h. rw (ne-eqb byte value (λ met. omega (arith, met, past, h))) (clear value h);
+        kept = λ i apart. refl;
+      }

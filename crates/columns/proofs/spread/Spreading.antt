@@ -1,21 +1,20 @@
 -- All groups of a column are put into the blocks, the groups of 31 rows at a time. Assumes nothing.
 use mathlib.Core.Path.{_≡_, refl, _∙_, ap, sym}
-use mathlib.Core.Logic.{by-cases}
 use mathlib.Core.List.{List, [], _∷_, _++_, append-nil, append-assoc}
-use Prim.Native.Nat.{ℕ, min, _+_, _*_, _-_, _<_, _≤_}
-use native.Mathlib.Decide.{decLt}
+use Prim.Native.Nat.{ℕ, suc, min, _+_, _*_, _-_, _<_, _≤_}
 use native.Mathlib.Numerals.{add-one}
 use native.Mathlib.Omega.{arith}
-use lib.ListN.{length, getD, take, drop, length-drop}
-use lib.Seq.{take-suc, getD-drop, ext-getD}
+use lib.ListN.{length, getD, set, take, drop, replicate, length-append, length-drop, length-replicate, replicate-append-replicate, List·getD-append}
+use lib.Seq.{take-suc, drop-cons, getD-drop, set-at, drop-at, ext-getD}
 use Rattle.groups.specs.Rows.{groupOf, groupsFor, groupsOf}
-use Rattle.groups.proofs.Groups.{groupsOf-next, groupsOf-past}
+use Rattle.groups.proofs.Groups.{groupsOf-next, groupsOf-past, getD-zeros}
 use Rattle.blocks.specs.Block.{part}
 use Rattle.blocks.proofs.Parts.{length-part, getD-part}
 use Rattle.blocks.proofs.Sizes.{place-fits}
 use Rattle.columns.specs.Column.{rowsWith}
 use Rattle.columns.proofs.listing.Rows.{length-rowsWith, rowsWith-take, rowsWith-drop}
-use Rattle.columns.specs.Spread.{Placed, Spread}
+use Rattle.columns.specs.Spread.{Clear, Placed, Spread}
+use Rattle.columns.proofs.spread.Placing.{same-block}
 
 -- ---- parts
 
@@ -34,19 +33,11 @@ part-same words left at count same fits each =
 
 -- two places of blocks meet only where they are the same place of the same block
 places-differ : (block value other place spot : ℕ) → place < block → spot < block → (place ≡ spot → ⊥) → value * block + place ≡ other * block + spot → ⊥
-places-differ block value other place spot p q differ met =
-    by-cases (decLt value other)
-    (λ less. omega (arith, met, place-fits block value other less))
-    (λ more.
-    by-cases (decLt other value)
-    (λ less. omega (arith, met, place-fits block other value less))
-    (λ least.
-    let same : value ≡ other = omega (arith, more, least) in
-    differ (omega (arith, rw same at met))))
+places-differ block value other place spot p q differ met = differ (omega (arith, rw (same-block block value other place spot p q met) at met))
 
 -- ---- the pass
 
--- the rows before `at` are passed; their groups stand before `place` of each block
+-- the rows before `at` are passed; their groups stand before `place` of each block, and 0 from there on
 pub record Spreading (block values : ℕ) (column words₀ words : List ℕ) (place at : ℕ) : Type 0 where
   pub within : at ≤ length column
   pub started : 2 ≤ place
@@ -54,13 +45,22 @@ pub record Spreading (block values : ℕ) (column words₀ words : List ℕ) (pl
   pub same : length words ≡ length words₀
   pub groups : (value : ℕ) → value < values
       → part words (value * block + 2) (place - 2) ++ groupsOf (drop at (rowsWith value column)) ≡ groupsOf (rowsWith value column)
+  pub clear : (spot : ℕ) → place ≤ spot → spot < block → Clear values block spot words
   pub behind : (i : ℕ) → values * block ≤ i → getD words i 0 ≡ getD words₀ i 0
 
-module _ (block values : ℕ) (column words₀ : List ℕ) where
+module _ (block values : ℕ) (column words₀ : List ℕ) (clear : (spot : ℕ) → spot < block → Clear values block spot words₀) where
   pub spread-none : Spreading block values column words₀ words₀ 2 0
   unfolding part
   spread-none =
-      record { within = omega arith; started = omega arith; places = omega arith; same = refl; groups = λ value below. refl; behind = λ i past. refl }
+      record {
+        within = omega arith;
+        started = omega arith;
+        places = omega arith;
+        same = refl;
+        groups = λ value below. refl;
+        clear = λ spot past. clear spot;
+        behind = λ i past. refl;
+      }
 
 module _ {block values : ℕ} {column words₀ words : List ℕ} {place at : ℕ} (room : 2 + groupsFor (length column) ≤ block)
     (lent : values * block ≤ length words₀) (p : Spreading block values column words₀ words place at) where
@@ -83,6 +83,10 @@ module _ {block values : ℕ} {column words₀ words : List ℕ} {place at : ℕ
           places = omega (arith, e, p .places);
           same = placed .same ∙ p .same;
           groups = λ value below. grows value below;
+          clear = λ spot past inside value below.
+              placed .kept (value * block + spot)
+              (λ other within. places-differ block value other spot place inside (place-inside more) (omega (arith, past)))
+              ∙ p .clear spot (omega (arith, past)) inside value below;
           behind = λ i past.
               placed .kept i (λ value below met. omega (arith, met, past, place-fits block value values below, place-inside more))
               ∙ p .behind i past;
@@ -117,4 +121,41 @@ module _ {block values : ℕ} {column words₀ words : List ℕ} {place at : ℕ
             let from = values * block in
             ext-getD 0 (drop from words) (drop from words₀) (simp length-drop (ap (λ (n : ℕ). n - from) (p .same)))
             (λ i h. getD-drop from words i 0 ∙ p .behind (from + i) (omega arith) ∙ sym (getD-drop from words₀ i 0));
+      }
+
+-- ---- the blocks are cleared first
+
+pub length-cleared : (words : List ℕ) (count : ℕ) → count ≤ length words → length (replicate count 0 ++ drop count words) ≡ length words
+length-cleared words count h = simp (length-append, length-replicate, length-drop) (omega arith)
+
+-- one word more
+pub clears-more : (words : List ℕ) (i : ℕ) → i < length words → set (replicate i 0 ++ drop i words) i 0 ≡ replicate (i + 1) 0 ++ drop (i + 1) words
+clears-more words i h =
+    rw (
+      drop-cons words i 0 h,
+      set-at (replicate i 0) (getD words i 0) (drop (suc i) words) 0 i (length-replicate {A = ℕ} i 0),
+      ← replicate-append-replicate {A = ℕ} i 1 0,
+      append-assoc,
+      add-one i,
+    )
+    refl
+
+module _ (block values : ℕ) (words cleared : List ℕ) (lent : values * block ≤ length words) (e : cleared ≡ replicate (values * block) 0 ++ drop (values * block) words) where
+  -- the places of all blocks are clear
+  pub all-clear : (spot : ℕ) → spot < block → Clear values block spot cleared
+  all-clear spot inside value below =
+      let size = values * block in
+      let within : value * block + spot < size = omega (arith, place-fits block value values below) in
+      ap (λ (words : List ℕ). getD words (value * block + spot) 0) e
+      ∙ List·getD-append (replicate size 0) (drop size words) 0 (value * block + spot) (rw length-replicate within)
+      ∙ getD-zeros size (value * block + spot)
+
+  -- and the rest is as it was
+  pub spread-over : {column left : List ℕ} → Spread block values column cleared left → Spread block values column words left
+  spread-over s =
+      let size = values * block in
+      record {
+        same = s .same ∙ ap length e ∙ length-cleared words size lent;
+        groups = s .groups;
+        behind = s .behind ∙ ap (drop size) e ∙ drop-at (replicate size 0) (drop size words) size (length-replicate {A = ℕ} size 0);
       }

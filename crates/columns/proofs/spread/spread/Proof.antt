@@ -1,10 +1,11 @@
--- `spread` meets its contract: its loop keeps `Spreading`. Assumes nothing.
+-- `spread` meets its contract: the blocks are cleared, and then its loop keeps `Spreading`. Assumes nothing.
+use mathlib.Core.Path.{_≡_, _∙_, ap}
 use Prim.Native.Nat.{_+_, _*_, _-_, _≤_}
 use native.Mathlib.Omega.{arith}
 use lib.ListN.{length, drop, length-take}
 use borrow.Author.Needs.{needs}
 use Rattle.groups.specs.Rows.{groupsFor}
-use Rattle.columns.proofs.spread.Spreading.{Spreading, spread-none, place-inside, spread-more, spread-all}
+use Rattle.columns.proofs.spread.Spreading.{Spreading, length-cleared, all-clear, spread-none, place-inside, spread-more, spread-all, spread-over}
 use Rattle.columns.proofs.spread.spread.Statement.{statement}
 use Rattle.columns.proofs.spread.spread.Tie as tie
 
@@ -22,8 +23,30 @@ room c = omega (arith, c .pre .0 .limits .groupsAre, c .pre .0 .block, c .pre .2
 lent : (c : tie.Start Inv-loop μ-loop) → c .args .values * c .args .plan .block ≤ length (c .args .words .now)
 lent c = rw (c .pre .0 .block) (c .pre .0 .lent)
 
+mul-clear : tie.Need-mul-clear Inv-loop μ-loop
+mul-clear c = omega (arith, lent (c .before .before .before))
+
+clear-requires : tie.Need-clear-requires Inv-loop μ-loop
+clear-requires c κs = lent (c .before .before .before)
+
+-- as many words are cleared
+same : (c : tie.After-clear Inv-loop μ-loop) → length (c .clear .last .0) ≡ length (c .before .before .before .before .args .words .now)
+same c =
+    let a = c .before .before .before .before .args in
+    ap length (c .clear .ensures) ∙ length-cleared (a .words .now) (a .values * a .plan .block) (lent (c .before .before .before .before))
+
+still-lent : (c : tie.After-clear Inv-loop μ-loop)
+    → let a = c .before .before .before .before .args in
+    a .values * a .plan .block ≤ length (c .clear .last .0)
+still-lent c = omega (arith, same c, lent (c .before .before .before .before))
+
 loop-holds : tie.Need-loop-holds Inv-loop μ-loop
-loop-holds c = let args = c .before .before .args in spread-none (args .plan .block) (args .values) (args .column .now) (args .words .now)
+loop-holds c =
+    let start = c .before .before .before .before .before .before in
+    let cleared = c .before .before .clear in
+    let a = start .args in
+    spread-none (a .plan .block) (a .values) (a .column .now) (cleared .last .0)
+    (all-clear (a .plan .block) (a .values) (a .words .now) (cleared .last .0) (lent start) (cleared .ensures))
 
 add-smaller : tie.Need-add-smaller Inv-loop μ-loop
 add-smaller c = omega arith
@@ -42,18 +65,21 @@ part-spread-group-end c = omega arith
 
 spread-group-requires : tie.Need-spread-group-requires Inv-loop μ-loop
 spread-group-requires c κs =
-    let start = c .before .before .before .before .before .before .before in
+    let start = c .before .before .before .before .before .before .before .before .before .before .before in
+    let cleared = c .before .before .before .before .before .before .before in
     let loop = c .before .before .before .before .loop in
-    let end = c .before .before .smaller in (
+    let end = c .before .before .smaller in
+    let inside = place-inside (room start) (still-lent cleared) (loop .inv) (c .before .before .before .loop-test .taken) in (
       omega (arith, length-take (end .result - loop .at) (drop (loop .at) (start .args .column .now)), end .ensures),
       start .pre .1,
-      place-inside (room start) (lent start) (loop .inv) (c .before .before .before .loop-test .taken),
-      omega (arith, lent start, loop .inv .same),
+      inside,
+      omega (arith, still-lent cleared, loop .inv .same),
+      loop .inv .clear (loop .place) (omega arith) inside,
     )
 
 add-place : tie.Need-add-place Inv-loop μ-loop
 add-place c =
-    let start = c .before .before .before .before .before .before .before .before .before .before in
+    let start = c .before .before .before .before .before .before .before .before .before .before .before .before .before .before in
     let loop = c .before .before .before .before .before .before .before .loop in
     omega (arith, loop .inv .places, start .pre .2, start .pre .0 .limits .fewRows)
 
@@ -62,20 +88,22 @@ loop-less c = omega arith
 
 loop-again : tie.Need-loop-again Inv-loop μ-loop
 loop-again c =
-    let start = c .before .before .before .before .before .before .before .before .before .before in
     let loop = c .before .before .before .before .before .before .before .loop in
     let end = c .before .before .before .before .before .smaller in
     let placed = c .before .before .spread-group in
-    spread-more (room start) (lent start) (loop .inv) (c .before .before .before .before .before .before .loop-test .taken)
+    spread-more (room (c .before .before .before .before .before .before .before .before .before .before .before .before .before .before)) (still-lent (c .before .before .before .before .before .before .before .before .before .before)) (loop .inv) (c .before .before .before .before .before .before .loop-test .taken)
     (end .result) (end .ensures) (placed .last .0) (placed .ensures)
 
 same-length : tie.Need-same-length Inv-loop μ-loop
-same-length c = c .before .loop .inv .same
+same-length c = c .before .loop .inv .same ∙ same (c .before .before .before .before)
 
 returns : tie.Need-returns Inv-loop μ-loop
 returns c =
-    let start = c .before .before .before .before in
-    spread-all (room start) (lent start) (c .before .loop .inv) (c .loop-test .left)
+    let start = c .before .before .before .before .before .before .before .before in
+    let cleared = c .before .before .before .before in
+    let a = start .args in
+    spread-over (a .plan .block) (a .values) (a .words .now) (cleared .clear .last .0) (lent start) (cleared .clear .ensures)
+    (spread-all (room start) (still-lent cleared) (c .before .loop .inv) (c .loop-test .left))
 
 pub spread-spec : {M : Type 1} → statement M
 spread-spec =
@@ -83,6 +111,8 @@ spread-spec =
     (tie.spec
     Inv-loop
     μ-loop
+    mul-clear
+    clear-requires
     loop-holds
     add-smaller
     smaller-requires
