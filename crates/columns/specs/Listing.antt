@@ -1,8 +1,8 @@
 -- A list that is written group by group: the step that takes in a sparse group, and what it means to take in some groups more.
 use mathlib.Core.Path.{_≡_}
-use mathlib.Core.Bool.{Bool, true, cond, _&&_}
+use mathlib.Core.Bool.{Bool, true, not, cond, _&&_}
 use mathlib.Core.List.{List, [], _∷_, _++_}
-use Prim.Native.Nat.{ℕ, _+_, _*_, _<_, _≤_}
+use Prim.Native.Nat.{ℕ, _+_, _<_, _≤_}
 use lib.Dec.{eqb}
 use lib.ListN.{length, getD}
 use lib.Seq.{sets}
@@ -12,9 +12,13 @@ use Rattle.words.specs.declared.writer.Pending.{Pending}
 use Rattle.words.specs.declared.writer.Step.{Step}
 use Rattle.columns.specs.declared.listing.Listed.{Listed}
 
+-- so many groups without a 1 are pending
+abbrev pub zerosPending : ℕ → Pending
+zerosPending zeros = record { bit = 0; count = zeros }
+
 -- some words, and the groups without a 1 that are pending after them
 abbrev pub stepOf : ℕ → ℕ → ℕ → ℕ → Step
-stepOf words first second zeros = record { words = words; first = first; second = second; pending = record { bit = 0; count = zeros } }
+stepOf words first second zeros = record { words = words; first = first; second = second; pending = zerosPending zeros }
 
 -- a group that is not all ones, after so many groups without a 1
 abbrev pub sparseStep : ℕ → ℕ → Step
@@ -26,9 +30,10 @@ abbrev pub allAlike : ℕ → List ℕ → Bool
 allAlike number [] = true
 allAlike number (next ∷ numbers) = eqb next number && allAlike number numbers
 
--- whether some groups are eight of one bit
-abbrev pub eightOf : ℕ → List ℕ → Bool
-eightOf bit groups = eqb (length groups) 8 && allAlike (bit * allOnes) groups
+-- whether none of some groups is all ones
+abbrev pub noneFull : List ℕ → Bool
+noneFull [] = true
+noneFull (group ∷ groups) = not (eqb group allOnes) && noneFull groups
 
 -- some groups can be taken in: the words of these and of those behind them fit, and 0 stands from there on
 pub record Fits (pending : Pending) (groups : List ℕ) (at : ℕ) (out : List ℕ) : Type 0 where

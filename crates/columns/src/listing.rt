@@ -1,6 +1,6 @@
 // Load's part for one value: its groups, which stand in the room of V, become its list there.
 ghost use mathlib.Core.Path.{_≡_};
-ghost use mathlib.Core.Bool.{cond};
+ghost use mathlib.Core.Bool.{true, cond};
 ghost use mathlib.Core.List.{[], _∷_, _++_};
 ghost use Prim.Native.Nat.{ℕ, _+_, _<_, _≤_};
 ghost use lib.Dec.{eqb};
@@ -11,7 +11,7 @@ ghost use Rattle.words.specs.Writer.{Takes, written};
 ghost use Rattle.blocks.specs.Shape.{Limits, blockSize};
 ghost use Rattle.blocks.specs.Block.{part, write, padded};
 ghost use Rattle.columns.specs.Column.{packedBlock};
-ghost use Rattle.columns.specs.Listing.{sparseStep, allAlike, eightOf, Fits, Follows};
+ghost use Rattle.columns.specs.Listing.{sparseStep, zerosPending, allAlike, noneFull, Fits, Follows};
 use blocks::put::clear_update;
 use blocks::put::put_value;
 use blocks::shape::Shape;
@@ -93,28 +93,6 @@ fn put_step(out: &mut [u32], at: usize, pending: Pending, group: u32) -> Listed
     }
 }
 
-// Takes one group more into a list.
-fn put_group(out: &mut [u32], at: usize, pending: Pending, group: u32) -> Listed
-    requires { ⌜ Fits pending (group ∷ []) at (now out) ⌝ }
-    ensures { λ r. ⌜ Follows pending (group ∷ []) at (now (out .entry)) r (now (out .exit)) ⌝ }
-{
-    if group == ALL_ONES {
-        return put_step(out, at, pending, group);
-    }
-    if pending.bit == 1 {
-        return put_step(out, at, pending, group);
-    }
-    let written = put_sparse(out, at, pending.count, group);
-    let zeros = zeros_after(pending.count, group);
-    Listed {
-        written: written,
-        pending: Pending {
-            bit: 0,
-            count: zeros,
-        },
-    }
-}
-
 // Takes some groups into a list, one after the other.
 fn put_each(out: &mut [u32], at: usize, pending: Pending, groups: &[u32]) -> Listed
     requires { ⌜ Fits pending (now groups) at (now out) ⌝ }
@@ -126,10 +104,33 @@ fn put_each(out: &mut [u32], at: usize, pending: Pending, groups: &[u32]) -> Lis
     };
     let mut i: usize = 0;
     while i < groups.len() {
-        listed = put_group(out, listed.written, listed.pending, groups[i]);
+        listed = put_step(out, listed.written, listed.pending, groups[i]);
         i += 1;
     }
     listed
+}
+
+// Takes eight groups of which none is all ones into a list, after a run of groups without a 1.
+fn put_sparse_each(out: &mut [u32], at: usize, run: u32, groups: &[u32]) -> Listed
+    requires { ⌜ Fits (zerosPending run) (now groups) at (now out) × (length (now groups) ≡ 8) × (noneFull (now groups) ≡ true) ⌝ }
+    ensures { λ r. ⌜ Follows (zerosPending run) (now (groups .entry)) at (now (out .entry)) r (now (out .exit)) ⌝ }
+{
+    let mut written = at;
+    let mut zeros = run;
+    let mut i: usize = 0;
+    while i < PART {
+        let group = groups[i];
+        written = put_sparse(out, written, zeros, group);
+        zeros = zeros_after(zeros, group);
+        i += 1;
+    }
+    Listed {
+        written: written,
+        pending: Pending {
+            bit: 0,
+            count: zeros,
+        },
+    }
 }
 
 // Whether eight groups are all the one given. It looks at all of them: without an early end the loop is
@@ -147,15 +148,35 @@ fn all_alike(groups: &[u32], group: u32) -> bool
     difference == 0
 }
 
-// Whether some groups are eight of one bit.
-fn eight_of(groups: &[u32], bit: u32) -> bool
-    requires { ⌜ bit < 2 ⌝ }
-    ensures { λ r. ⌜ r ≡ eightOf bit (now (groups .entry)) ⌝ }
+// Whether none of eight groups is all ones. It looks at all of them, as `all_alike` does.
+fn none_full(groups: &[u32]) -> bool
+    requires { ⌜ length (now groups) ≡ 8 ⌝ }
+    ensures { λ r. ⌜ r ≡ noneFull (now (groups .entry)) ⌝ }
 {
-    if groups.len() != PART {
-        return false;
+    let mut full: u32 = 0;
+    let mut i: usize = 0;
+    while i < PART {
+        if groups[i] == ALL_ONES {
+            full = 1;
+        }
+        i += 1;
     }
-    all_alike(groups, bit * ALL_ONES)
+    full == 0
+}
+
+// Takes eight groups into a list: without a branch where none of them, and no group of the pending run,
+// is all ones.
+fn put_eight(out: &mut [u32], at: usize, pending: Pending, groups: &[u32]) -> Listed
+    requires { ⌜ Fits pending (now groups) at (now out) × (length (now groups) ≡ 8) ⌝ }
+    ensures { λ r. ⌜ Follows pending (now (groups .entry)) at (now (out .entry)) r (now (out .exit)) ⌝ }
+{
+    if pending.bit == 1 {
+        return put_each(out, at, pending, groups);
+    }
+    if !none_full(groups) {
+        return put_each(out, at, pending, groups);
+    }
+    put_sparse_each(out, at, pending.count, groups)
 }
 
 // Takes some groups into a list. Eight that only make the pending run longer are counted and not looked
@@ -165,7 +186,10 @@ fn put_part(out: &mut [u32], at: usize, pending: Pending, groups: &[u32]) -> Lis
     ensures { λ r. ⌜ Follows pending (now (groups .entry)) at (now (out .entry)) r (now (out .exit)) ⌝ }
 {
     let bit = pending.bit;
-    if eight_of(groups, bit) {
+    if groups.len() != PART {
+        return put_each(out, at, pending, groups);
+    }
+    if all_alike(groups, bit * ALL_ONES) {
         let longer = pending.count + PART as u32;
         return Listed {
             written: at,
@@ -175,11 +199,11 @@ fn put_part(out: &mut [u32], at: usize, pending: Pending, groups: &[u32]) -> Lis
             },
         };
     }
-    put_each(out, at, pending, groups)
+    put_eight(out, at, pending, groups)
 }
 
 // Writes the list of some groups, all zero behind them up to `total`, over zeros; answers its length.
-// One step takes in those behind.
+// Eight groups are taken in at a time, and those behind by one step.
 fn list_into(groups: &[u32], total: u32, out: &mut [u32]) -> usize
     requires { ⌜ (length (now groups) ≤ total) × (total ≤ 4096) × (total ≤ length (now out)) × ((i : ℕ) → getD (now out) i 0 ≡ 0) ⌝ }
     ensures { λ r. ⌜ (r ≡ length (encode (padded total (now (groups .entry)))))

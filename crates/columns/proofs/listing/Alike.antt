@@ -1,8 +1,8 @@
 -- Numbers that are all alike, as the bits in which they differ show it. Assumes nothing.
-use mathlib.Core.Path.{_≡_, refl, _∙_, ap, ap₂, sym}
+use mathlib.Core.Path.{_≡_, refl, ap₂, sym}
 use mathlib.Core.Bool.{Bool, true, false, _&&_, and-eq-true-iff, and-assoc, and-true}
 use mathlib.Core.List.{List, [], _∷_}
-use Prim.Native.Nat.{ℕ, suc, _+_, _*_, _<_, _≤_}
+use Prim.Native.Nat.{ℕ, suc, _+_, _<_, _≤_}
 use native.Mathlib.Numerals.{add-one}
 use native.Mathlib.Omega.{arith}
 use lib.Bits.{bitOr, bitXor, xor-self, xor-add-and, and-le-l, and-le-r}
@@ -10,9 +10,8 @@ use lib.Dec.{eqb}
 use lib.ListN.{length, getD, drop, replicate, drop-of-length-le}
 use lib.Seq.{drop-cons}
 use borrow.Author.Tests.{eqb-true, eqb-false, ne-eqb}
-use Rattle.words.specs.Words.{allOnes, uniform}
 use Rattle.groups.proofs.Zeros.{both-zero}
-use Rattle.columns.specs.Listing.{allAlike, eightOf}
+use Rattle.columns.specs.Listing.{allAlike}
 
 -- two numbers are the same where no bit differs
 no-difference : (x y : ℕ) → eqb (bitXor x y) 0 ≡ eqb x y
@@ -34,14 +33,8 @@ module _ (number : ℕ) (numbers : List ℕ) (difference i : ℕ) where
   differs-all h = rw (drop-of-length-le numbers h) (and-true (eqb difference 0))
 
 -- numbers that are alike are one, so many times
-pub alike-replicate : (number : ℕ) (numbers : List ℕ) → allAlike number numbers ≡ true → numbers ≡ replicate (length numbers) number
-alike-replicate number [] e = refl
-alike-replicate number (next ∷ numbers) e =
+pub alike-replicate : (number : ℕ) (numbers : List ℕ) (count : ℕ) → length numbers ≡ count → allAlike number numbers ≡ true → numbers ≡ replicate count number
+alike-replicate number [] count long e = rw (← long) refl
+alike-replicate number (next ∷ numbers) count long e =
     let both = and-eq-true-iff (eqb next number) (allAlike number numbers) .0 e in
-    ap₂ _∷_ (eqb-true next number (both .0)) (alike-replicate number numbers (both .1))
-
--- so are eight groups of one bit
-pub eight-uniform : (bit : ℕ) (groups : List ℕ) → eightOf bit groups ≡ true → groups ≡ uniform bit 8
-eight-uniform bit groups e =
-    let both = and-eq-true-iff (eqb (length groups) 8) (allAlike (bit * allOnes) groups) .0 e in
-    alike-replicate (bit * allOnes) groups (both .1) ∙ ap (λ (count : ℕ). uniform bit count) (eqb-true (length groups) 8 (both .0))
+    rw (← long) (ap₂ _∷_ (eqb-true next number (both .0)) (alike-replicate number numbers (length numbers) refl (both .1)))

@@ -1,25 +1,21 @@
 -- A group that is not all ones after groups without a 1: the step that takes it in, and its words written without a branch. Assumes nothing.
 use mathlib.Core.Path.{_≡_, refl, _∙_, ap}
-use mathlib.Core.Bool.{Bool, true, false, cond}
+use mathlib.Core.Bool.{Bool, true, false, not, cond, _&&_, and-true, and-false, and-eq-true-iff}
 use mathlib.Core.List.{List, [], _∷_}
-use Prim.Native.Nat.{ℕ, _+_, _*_, _<_, _≤_}
+use Prim.Native.Nat.{ℕ, zero, suc, _+_, _*_, _<_, _≤_}
 use native.Mathlib.Nat.{add-zero, zero-mul, mul-zero}
 use native.Mathlib.Numerals.{add-one}
 use native.Mathlib.Omega.{arith}
 use lib.Dec.{eqb}
-use lib.ListN.{length, getD, set}
-use lib.Seq.{sets, set-set, set-getD}
-use borrow.Author.Tests.{eqb-true, eqb-false, ne-eqb}
+use lib.ListN.{length, getD, set, drop, drop-of-length-le}
+use lib.Seq.{sets, set-set, set-getD, drop-cons}
+use borrow.Author.Tests.{eqb-true, eqb-false, ne-eqb, not-true}
 use Rattle.words.specs.Words.{fill, wordOf, allOnes, encode}
 use Rattle.words.specs.Writer.{written, Takes}
 use Rattle.words.specs.declared.writer.Pending.{Pending}
 use Rattle.words.specs.declared.writer.Step.{Step}
 use Rattle.words.proofs.Runs.{ends-run, literal-word, joins}
-use Rattle.columns.specs.Listing.{stepOf, sparseStep}
-
--- so many groups without a 1 are pending
-abbrev pub zerosPending : ℕ → Pending
-zerosPending zeros = record { bit = 0; count = zeros }
+use Rattle.columns.specs.Listing.{zerosPending, stepOf, sparseStep, noneFull}
 
 module _ (zeros group : ℕ) (dense : group ≡ allOnes → ⊥) where
   pub sparse-takes : Takes (zerosPending zeros) (group ∷ []) (sparseStep zeros group)
@@ -45,13 +41,9 @@ module _ (zeros group : ℕ) (dense : group ≡ allOnes → ⊥) where
             grows = omega arith;
           })
 
--- the same of a run that is known to be one of groups without a 1
-pub sparse-after : (pending : Pending) (group : ℕ) → pending .bit ≡ 0 → (group ≡ allOnes → ⊥)
-    → Takes pending (group ∷ []) (sparseStep (pending .count) group)
-sparse-after pending group zero dense = go (pending .bit) zero
-  where
-    go : (bit : ℕ) → bit ≡ 0 → Takes (record { bit = bit; count = pending .count }) (group ∷ []) (sparseStep (pending .count) group)
-    go bit e = rw e (sparse-takes (pending .count) group dense)
+-- a pending run that is one of groups without a 1
+pub zeros-run : (pending : Pending) → pending .bit ≡ 0 → pending ≡ zerosPending (pending .count)
+zeros-run pending e = ap (λ (bit : ℕ). record { bit = bit; count = pending .count }) e
 
 -- what is pending then are groups without a 1
 pub sparse-pending : (zeros group count : ℕ) → count ≡ sparseStep zeros group .pending .count → zerosPending count ≡ sparseStep zeros group .pending
@@ -113,3 +105,28 @@ module _ (out : List ℕ) (at zeros group held run word : ℕ) (h : held ≡ con
             counts = rw (here, e, f, one) (omega arith);
             writes = rw (here, e, f, w, add-one at) refl;
           }
+
+-- ---- groups of which none is all ones
+
+pub none-full : (groups : List ℕ) → noneFull groups ≡ true → (i : ℕ) → i < length groups → getD groups i 0 ≡ allOnes → ⊥
+none-full [] e i h is = omega arith
+none-full (group ∷ groups) e zero h is =
+    let both = and-eq-true-iff (not (eqb group allOnes)) (noneFull groups) .0 e in
+    eqb-false group allOnes (not-true (eqb group allOnes) (both .0)) is
+none-full (group ∷ groups) e (suc i) h is =
+    let both = and-eq-true-iff (not (eqb group allOnes)) (noneFull groups) .0 e in
+    none-full groups (both .1) i (omega arith) is
+
+-- the loop that looks for a group of all ones: a turn, and the end
+module _ (groups : List ℕ) (full i : ℕ) where
+  pub full-more : i < length groups → (next : ℕ) → (getD groups i 0 ≡ allOnes → next ≡ 1) → ((getD groups i 0 ≡ allOnes → ⊥) → next ≡ full)
+      → eqb full 0 && noneFull (drop i groups) ≡ eqb next 0 && noneFull (drop (i + 1) groups)
+  full-more h next found kept = rw (drop-cons groups i 0 h, add-one) (go (eqb (getD groups i 0) allOnes) refl)
+    where
+      go : (t : Bool) → eqb (getD groups i 0) allOnes ≡ t
+          → eqb full 0 && (not t && noneFull (drop (suc i) groups)) ≡ eqb next 0 && noneFull (drop (suc i) groups)
+      go true e = rw (found (eqb-true (getD groups i 0) allOnes e)) (and-false (eqb full 0))
+      go false e = rw (kept (eqb-false (getD groups i 0) allOnes e)) refl
+
+  pub full-all : length groups ≤ i → eqb full 0 && noneFull (drop i groups) ≡ eqb full 0
+  full-all h = rw (drop-of-length-le groups h) (and-true (eqb full 0))

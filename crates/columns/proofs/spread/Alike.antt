@@ -18,7 +18,7 @@ use Rattle.columns.proofs.listing.Alike.{alike-replicate}
 use Rattle.columns.specs.Spread.{oneByte}
 
 alike-each : (byte : ℕ) (rows : List ℕ) → allAlike byte rows ≡ true → (i : ℕ) → i < length rows → getD rows i 0 ≡ byte
-alike-each byte rows e i h = ap (λ (same : List ℕ). getD same i 0) (alike-replicate byte rows e) ∙ getD-replicate (length rows) i byte 0 h
+alike-each byte rows e i h = ap (λ (same : List ℕ). getD same i 0) (alike-replicate byte rows (length rows) refl e) ∙ getD-replicate (length rows) i byte 0 h
 
 each-alike : (byte : ℕ) (rows : List ℕ) → ((i : ℕ) → i < length rows → getD rows i 0 ≡ byte) → allAlike byte rows ≡ true
 each-alike byte [] each = refl
@@ -92,7 +92,7 @@ module _ (rows : List ℕ) (e : oneByte rows ≡ true) where
   whole-length = eqb-true (length rows) 31 (both .0)
 
   all : rows ≡ replicate 31 byte
-  all = alike-replicate byte rows (both .1) ∙ ap (λ (count : ℕ). replicate count byte) whole-length
+  all = alike-replicate byte rows 31 whole-length (both .1)
 
   pub whole-group : (value : ℕ) → cond (eqb (getD rows 0 0) value) allOnes 0 ≡ groupOf 31 (rowsWith value rows)
   whole-group value = go byte (eqb byte value) refl ∙ ap (λ (same : List ℕ). groupOf 31 (rowsWith value same)) (sym all)

@@ -1,8 +1,8 @@
 -- `list_into` writes a list part by part: its loop takes in the groups passed, and a last step those behind. Assumes nothing.
-use mathlib.Core.Path.{_≡_, refl, _∙_, ap}
+use mathlib.Core.Path.{_≡_, _∙_, ap}
 use Prim.Native.Nat.{_-_, _≤_}
 use native.Mathlib.Omega.{arith}
-use lib.ListN.{length, take, replicate, length-take, length-replicate}
+use lib.ListN.{length, take, replicate, length-replicate}
 use lib.Seq.{length-sets, take-all}
 use borrow.Author.Needs.{needs}
 use Rattle.words.specs.Writer.{Takes}

@@ -17,14 +17,14 @@ abbrev μ-loop : tie.MeasureT-loop
 loop-holds : tie.Need-loop-holds Inv-loop μ-loop
 loop-holds c = let start = c .before .before in (omega arith, follows-none (start .args .pending) (start .args .at) (start .args .out .now) (start .pre .isBit))
 
-mul-put-group : tie.Need-mul-put-group Inv-loop μ-loop
-mul-put-group c = omega arith
+mul-put-step : tie.Need-mul-put-step Inv-loop μ-loop
+mul-put-step c = omega arith
 
-shared-slice-read-put-group : tie.Need-shared-slice-read-put-group Inv-loop μ-loop
-shared-slice-read-put-group c = omega arith
+shared-slice-read-put-step : tie.Need-shared-slice-read-put-step Inv-loop μ-loop
+shared-slice-read-put-step c = omega arith
 
-put-group-requires : tie.Need-put-group-requires Inv-loop μ-loop
-put-group-requires c κs =
+put-step-requires : tie.Need-put-step-requires Inv-loop μ-loop
+put-step-requires c κs =
     let start = c .before .before .before .before .before .before in
     let loop = c .before .before .before .loop in
     rw (one-group (start .args .groups .now) (loop .i) (c .before .before .loop-test .taken)) at (part-fits (start .pre) (loop .i) (loop .inv .1) (loop .i + 1 - loop .i))
@@ -41,7 +41,7 @@ loop-again c =
     let loop = c .before .before .before .before .before .before .loop in (
       omega arith,
       part-follows (start .pre) (loop .i) (loop .inv .1) (loop .i + 1) (omega arith)
-          (rw (one-group (start .args .groups .now) (loop .i) (c .before .before .before .before .before .loop-test .taken)) (c .before .before .put-group .ensures)),
+          (rw (one-group (start .args .groups .now) (loop .i) (c .before .before .before .before .before .loop-test .taken)) (c .before .before .put-step .ensures)),
     )
 
 same-length : tie.Need-same-length Inv-loop μ-loop
@@ -59,9 +59,9 @@ put-each-spec =
     Inv-loop
     μ-loop
     loop-holds
-    mul-put-group
-    shared-slice-read-put-group
-    put-group-requires
+    mul-put-step
+    shared-slice-read-put-step
+    put-step-requires
     add-i
     loop-less
     loop-again
