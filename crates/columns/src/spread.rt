@@ -12,8 +12,8 @@ ghost use Rattle.words.specs.Words.{allOnes};
 ghost use Rattle.columns.specs.Column.{rowsWith};
 ghost use Rattle.columns.specs.Listing.{allAlike};
 ghost use Rattle.columns.specs.Spread.{Blocks, Clear, Placed, Spread, oneByte};
-use crate::entry::Plan;
 use groups::rows::smaller;
+use steps::entry::Plan;
 use words::word::ALL_ONES;
 
 // The most values of an index.
