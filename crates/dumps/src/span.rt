@@ -1,7 +1,7 @@
 // Dump's part for one value: its rows get the value as their byte.
 ghost use mathlib.Core.Path.{_≡_};
 ghost use mathlib.Core.Bool.{true};
-ghost use Prim.Native.Nat.{min, _+_, _-_, _<_, _≤_};
+ghost use Prim.Native.Nat.{_+_, _-_, _<_, _≤_};
 ghost use lib.ListN.{length};
 ghost use Rattle.groups.specs.Rows.{groupsFor};
 ghost use Rattle.words.specs.Writer.{Alone};
@@ -11,17 +11,12 @@ ghost use Rattle.dumps.specs.Dump.{groupsHold, groupsMarked, inLists, sp
 use crate::marking::mark_groups;
 use blocks::shape::Shape;
 use blocks::shape::update_room;
+use lists::combine::smaller;
 use reads::walk::Walk;
 use reads::walk::walk_on;
 use reads::walk::walk_to;
 use words::word::ALL_ONES;
 use words::word::group_in;
-
-fn fewer(x: u32, y: u32) -> u32
-    ensures { λ r. ⌜ r ≡ min x y ⌝ }
-{
-    if x < y { x } else { y }
-}
 
 // Up to which group, of those before `to`, all have the bits of `group`, behind which two words cover
 // `beyond` and `more` groups. A group that is not uniform stands alone.
@@ -29,7 +24,7 @@ fn alike_up_to(bits: u32, group: u32, to: u32, beyond: u32, more: u32) -> u32
     requires { ⌜ group < to ⌝ }
     ensures { λ r. ⌜ (group < r) × (r ≤ to) × (r - group ≤ beyond + 1) × (r - group ≤ more + 1) × Alone bits (r - group) ⌝ }
 {
-    let behind = fewer(fewer(beyond, more), to - group - 1);
+    let behind = smaller(smaller(beyond, more), to - group - 1);
     if bits == 0 {
         return group + 1 + behind;
     }

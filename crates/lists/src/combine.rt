@@ -67,7 +67,7 @@ fn moved(span: Span, words: usize) -> Span
     }
 }
 
-fn smaller(x: u32, y: u32) -> u32
+pub fn smaller(x: u32, y: u32) -> u32
     ensures { λ r. ⌜ r ≡ min x y ⌝ }
 {
     if x < y { x } else { y }
