@@ -16,7 +16,6 @@ use blocks::put::clear_update;
 use blocks::put::put_value;
 use blocks::shape::Shape;
 use groups::rows::GROUP_LIMIT;
-use groups::rows::smaller;
 use words::word::ALL_ONES;
 use words::word::fill_word;
 use words::writer::Pending;
@@ -179,16 +178,13 @@ fn put_eight(out: &mut [u32], at: usize, pending: Pending, groups: &[u32]) -> Li
     put_sparse_each(out, at, pending.count, groups)
 }
 
-// Takes some groups into a list. Eight that only make the pending run longer are counted and not looked
-// at one by one; a run that begins among them goes on in the groups behind.
+// Takes eight groups into a list. Where they only make the pending run longer they are counted and not
+// looked at one by one; a run that begins among them goes on in the groups behind.
 fn put_part(out: &mut [u32], at: usize, pending: Pending, groups: &[u32]) -> Listed
-    requires { ⌜ Fits pending (now groups) at (now out) ⌝ }
+    requires { ⌜ Fits pending (now groups) at (now out) × (length (now groups) ≡ 8) ⌝ }
     ensures { λ r. ⌜ Follows pending (now (groups .entry)) at (now (out .entry)) r (now (out .exit)) ⌝ }
 {
     let bit = pending.bit;
-    if groups.len() != PART {
-        return put_each(out, at, pending, groups);
-    }
     if all_alike(groups, bit * ALL_ONES) {
         let longer = pending.count + PART as u32;
         return Listed {
@@ -214,12 +210,13 @@ fn list_into(groups: &[u32], total: u32, out: &mut [u32]) -> usize
         pending: Pending { bit: 0, count: 0 },
     };
     let mut i: usize = 0;
-    while i < groups.len() {
-        let end = smaller(i + PART, groups.len());
+    while i + PART <= groups.len() {
+        let end = i + PART;
         listed = put_part(out, listed.written, listed.pending, &groups[i..end]);
         i = end;
     }
-    let behind = total - i as u32;
+    listed = put_each(out, listed.written, listed.pending, &groups[i..]);
+    let behind = total - groups.len() as u32;
     let step = step_zeros(listed.pending, behind);
     let written = store(out, listed.written, step);
     finish(out, written, step.pending)

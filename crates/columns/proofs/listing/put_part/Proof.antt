@@ -8,15 +8,6 @@ use Rattle.columns.proofs.listing.Loop.{follows-run}
 use Rattle.columns.proofs.listing.put_part.Statement.{statement}
 use Rattle.columns.proofs.listing.put_part.Tie as tie
 
-put-each-requires : tie.Need-put-each-requires
-put-each-requires c κs = search needs
-
-same-length : tie.Need-same-length
-same-length c = search needs
-
-returns : tie.Need-returns
-returns c = search needs
-
 mul-all-alike : tie.Need-mul-all-alike
 mul-all-alike c = search needs
 
@@ -29,34 +20,31 @@ cast-longer c = search needs
 add-longer : tie.Need-add-longer
 add-longer c = search needs
 
-returns-2 : tie.Need-returns-2
-returns-2 c =
-    let start = c .before .before .before .before .before .before in
+returns : tie.Need-returns
+returns c =
+    let start = c .before .before .before .before .before in
     let a = start .args in
-    rw (alike-replicate (a .pending .bit * allOnes) (a .groups .now) 8 (c .before .before .before .if1 .left) (sym (c .before .before .all-alike .ensures) ∙ c .before .if2 .taken))
-    (follows-run (a .pending) 8 (a .at) (a .out .now) (start .pre .isBit))
+    rw (alike-replicate (a .pending .bit * allOnes) (a .groups .now) 8 (start .pre .1) (sym (c .before .before .all-alike .ensures) ∙ c .before .if1 .taken))
+    (follows-run (a .pending) 8 (a .at) (a .out .now) (start .pre .0 .isBit))
 
 put-eight-requires : tie.Need-put-eight-requires
 put-eight-requires c κs = search needs
 
-same-length-2 : tie.Need-same-length-2
-same-length-2 c = search needs
+same-length : tie.Need-same-length
+same-length c = search needs
 
-returns-3 : tie.Need-returns-3
-returns-3 c = search needs
+returns-2 : tie.Need-returns-2
+returns-2 c = search needs
 
 pub put-part-spec : {M : Type 1} → statement M
 put-part-spec =
     tie.close
     (tie.spec
-    put-each-requires
-    same-length
-    returns
     mul-all-alike
     all-alike-requires
     cast-longer
     add-longer
-    returns-2
+    returns
     put-eight-requires
-    same-length-2
-    returns-3)
+    same-length
+    returns-2)
