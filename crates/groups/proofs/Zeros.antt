@@ -13,7 +13,7 @@ use borrow.Author.Tests.{eqb-true, eqb-false, ne-eqb}
 use Rattle.groups.specs.Rows.{allZero}
 
 -- two words are 0 exactly where their bits together are
-both-zero : (x y : ℕ) → eqb x 0 && eqb y 0 ≡ eqb (bitOr x y) 0
+pub both-zero : (x y : ℕ) → eqb x 0 && eqb y 0 ≡ eqb (bitOr x y) 0
 both-zero x y = go (eqb x 0) (eqb y 0) refl refl
   where
     go : (s t : Bool) → eqb x 0 ≡ s → eqb y 0 ≡ t → s && t ≡ eqb (bitOr x y) 0
