@@ -15,7 +15,7 @@ use Rattle.words.proofs.Size.{encode-length}
 use Rattle.words.proofs.Writing.{written-length}
 use Rattle.blocks.specs.Block.{padded}
 use Rattle.blocks.proofs.Rooms.{length-padded}
-use Rattle.columns.specs.Listing.{Fits, Follows}
+use Rattle.columns.specs.Listing.{zerosPending, Fits, Follows}
 use Rattle.columns.specs.declared.listing.Listed.{Listed}
 
 -- ---- writes
@@ -132,7 +132,7 @@ module _ {pending : Pending} {groups : List ℕ} {at : ℕ} {out : List ℕ} {li
   -- and are taken in then
   follows-on : {more : List ℕ} {further : Listed} {end : List ℕ} → Follows (listed .pending) more (listed .written) left further end
       → Follows pending (groups ++ more) at out further end
-  follows-on {more} {further} g =
+  follows-on {more} g =
       record {
         words = f .words ++ g .words;
         law = λ rest. rw append-assoc (f .law (more ++ rest) ∙ rw (g .law rest, append-assoc) refl);
@@ -165,8 +165,9 @@ one-group groups i h =
 
 -- ---- all groups, with the zeros behind the last one
 
+-- no run is pending
 abbrev pub none : Pending
-none = record { bit = 0; count = 0 }
+none = zerosPending 0
 
 -- all are taken in, and what is pending is written
 module _ {groups out₀ : List ℕ} {listed : Listed} {out : List ℕ} (f : Follows none groups 0 out₀ listed out) where
@@ -178,7 +179,6 @@ module _ {groups out₀ : List ℕ} {listed : Listed} {out : List ℕ} (f : Foll
 
   finished : length (encode groups) ≤ length out₀ → sets out (listed .written) (lastWords (listed .pending)) ≡ encode groups ++ drop (length (encode groups)) out₀
   finished h =
-      let last = lastWords (listed .pending) in
       rw (f .writes, f .counts, ← sets-append, whole) (sets-eq (encode groups) out₀ 0 (omega arith) ∙ rw zero-add refl)
 
 module _ (total : ℕ) (groups out₀ : List ℕ) (few : length groups ≤ total) (many : total ≤ 4096) (long : total ≤ length out₀)

@@ -1,4 +1,4 @@
--- A group that is not all ones after groups without a 1: the step that takes it in, and its words written without a branch. Assumes nothing.
+-- Groups that are not all ones after groups without a 1: the step that takes one in, its words written without a branch, and the test for them. Assumes nothing.
 use mathlib.Core.Path.{_≡_, refl, _∙_, ap}
 use mathlib.Core.Bool.{Bool, true, false, not, cond, _&&_, and-true, and-false, and-eq-true-iff}
 use mathlib.Core.List.{List, [], _∷_}
