@@ -49,9 +49,9 @@ fn by_bit(group: u32, row: usize, clear: u8, set: u8) -> u8
     }
 }
 
-// Gives the value to each row of a whole group whose bit is 1; `rows` has the row behind the group too,
-// which stays as it is. All 32 are looked at: the loop is vectorised, sixteen at a time, and its masks are
-// computed by the compiler. (A table of them would be written to memory at each call.)
+// Gives the value to each row of a whole group whose bit is 1; `rows` has a byte more, which stays as it
+// is. All 32 are looked at: the loop is vectorised, sixteen at a time, and its masks are computed by the
+// compiler. (A table of them would be written to memory at each call.)
 fn mark_whole(rows: &mut [u8], group: u32, value: u8) -> bool
     requires { ⌜ length (now rows) ≡ 32 ⌝ }
     ensures { λ r. ⌜ (r ≡ groupsHold (alike group) 0 1 31 (now (rows .entry)))
@@ -80,15 +80,18 @@ fn copy_rows(from: &[u8], to: &mut [u8], first: usize, count: usize)
     }
 }
 
-// The same in other bytes, of which 31 come back: the next group's rows, which begin with the row behind
-// this one's, are read sixteen at a time, and such a load waits if one of its bytes was just written.
+// Gives the value to each row of a whole group whose bit is 1, in other bytes. The rows are copied there
+// and back as sixteen and twice eight, one of them twice: the compiler does each at once. Nothing behind
+// the group is written, or the next group's load of sixteen bytes from there on would wait for it.
 fn mark_many(rows: &mut [u8], group: u32, value: u8) -> bool
-    requires { ⌜ length (now rows) ≡ 32 ⌝ }
-    ensures { λ r. ⌜ (r ≡ groupsHold (alike group) 0 1 31 (now (rows .entry)))
-        × (r ≡ true → now (rows .exit) ≡ groupsMarked (alike group) 0 1 31 value (now (rows .entry))) ⌝ }
+    requires { ⌜ length (now rows) ≡ 31 ⌝ }
+    ensures { λ r. ⌜ (r ≡ everyRow (freeInGroup group) 0 (now (rows .entry)))
+        × (r ≡ true → now (rows .exit) ≡ eachRow (markedInGroup group value) 0 (now (rows .entry))) ⌝ }
 {
     let mut marked = [0u8; 32];
-    copy_rows(rows, &mut marked, 0, 32);
+    copy_rows(rows, &mut marked, 0, 16);
+    copy_rows(rows, &mut marked, 16, 8);
+    copy_rows(rows, &mut marked, 23, 8);
     let free = mark_whole(&mut marked, group, value);
     copy_rows(&marked, rows, 0, 16);
     copy_rows(&marked, rows, 16, 8);
@@ -128,11 +131,11 @@ fn mark_alike(rows: &mut [u8], bits: u32, value: u8) -> bool
     mark_few(rows, bits, value)
 }
 
-// Whether a group is marked by `mark_many`: more than one of its bits is 1, some are 0, all of its rows
-// are below `issued`, and there is a row behind them.
-fn is_many(bits: u32, start: usize, issued: usize, length: usize) -> bool
+// Whether a group is marked by `mark_many`: more than one of its bits is 1, some are 0, and all of its
+// rows are below `issued`.
+fn is_many(bits: u32, start: usize, issued: usize) -> bool
     requires { ⌜ start < 0x8000000000 ⌝ }
-    ensures { λ r. ⌜ (r ≡ true → (bits ≡ 0 → ⊥) × (bits ≡ allOnes → ⊥) × (start + 31 ≤ issued) × (start + 32 ≤ length)) ⌝ }
+    ensures { λ r. ⌜ (r ≡ true → (bits ≡ 0 → ⊥) × (bits ≡ allOnes → ⊥) × (start + 31 ≤ issued)) ⌝ }
 {
     if bits == 0 {
         return false;
@@ -141,9 +144,6 @@ fn is_many(bits: u32, start: usize, issued: usize, length: usize) -> bool
         return false;
     }
     if issued < start + 31 {
-        return false;
-    }
-    if length < start + 32 {
         return false;
     }
     bits & (bits - 1) != 0
@@ -158,8 +158,8 @@ pub fn mark_groups(rows: &mut [u8], bits: u32, group: u32, end: u32, issued: u32
         × (r ≡ true → now (rows .exit) ≡ groupsMarked (alike bits) group end issued value (now (rows .entry))) ⌝ }
 {
     let start = group as usize * 31;
-    if is_many(bits, start, issued as usize, rows.len()) {
-        let behind = start + 32;
+    if is_many(bits, start, issued as usize) {
+        let behind = start + 31;
         return mark_many(&mut rows[start..behind], bits, value);
     }
     let stop = smaller(end as usize * 31, issued as usize);

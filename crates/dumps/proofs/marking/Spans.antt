@@ -1,10 +1,8 @@
 -- Spans of groups: two that meet, readings that agree, and groups that all have the same bits. Assumes nothing.
-use mathlib.Core.Path.{_≡_, refl, _∙_, ap, sym}
+use mathlib.Core.Path.{_≡_, refl, _∙_, ap}
 use mathlib.Core.Bool.{Bool, true, false, _&&_, and-true, and-false}
 use mathlib.Core.List.{List, _++_}
-use mathlib.Core.Logic.{by-cases}
 use Prim.Native.Nat.{ℕ, min, _+_, _*_, _-_, _/_, _%_, _<_, _≤_}
-use native.Mathlib.Decide.{decLt}
 use native.Mathlib.Nat.{zero-add}
 use native.Mathlib.Omega.{arith}
 use lib.Dec.{leb, ltb}
@@ -85,7 +83,7 @@ module _ (reading : ℕ → Reading) (issued : ℕ) where
     before-span : (row : ℕ) → row < from * 31 → inSpan from to issued row ≡ false
     before-span row h = rw (lt-leb from (row / 31) (omega arith)) refl
 
-    pub behind-span : (row : ℕ) → min (to * 31) issued ≤ row → inSpan from to issued row ≡ false
+    behind-span : (row : ℕ) → min (to * 31) issued ≤ row → inSpan from to issued row ≡ false
     behind-span row h = go (ltb row issued) refl
       where
         go : (t : Bool) → ltb row issued ≡ t → inSpan from to issued row ≡ false
@@ -218,30 +216,4 @@ module _ (bits from to issued : ℕ) where
       marked-part value =
           marked-middle front middle back starts (omega (arith, starts, part-length)) value (markedInGroup bits value)
           (λ i byte h. rw (here i h .0, here i h .1, zero-add) refl)
-          ∙ ap (groupsMarked (alike bits) from to issued value) (put-same (from * 31) (end - from * 31) rows)
-
-    -- the part has the rows of one whole group, and rows behind it
-    module _ (one : to ≡ from + 1) (whole : to * 31 ≤ issued) (wide : to * 31 ≤ end) where
-      same-span : (i : ℕ) → inSpan from to issued (from * 31 + i) ≡ inSpan 0 1 31 (0 + i)
-      same-span i =
-          by-cases (decLt i 31)
-          (λ h. in-span (alike bits) issued from to (from * 31 + i) (omega arith) (omega arith) ∙ sym (in-span (alike bits) 31 0 1 (0 + i) (omega arith) (omega arith)))
-          (λ h. behind-span (alike bits) issued from to (from * 31 + i) (omega (arith, h)) ∙ sym (behind-span (alike bits) 31 0 1 (0 + i) (omega (arith, h))))
-
-      same-row : (i : ℕ) → (from * 31 + i) % 31 ≡ (0 + i) % 31
-      same-row i = omega arith
-
-      pub holds-one : groupsHold (alike bits) 0 1 31 middle ≡ groupsHold (alike bits) from to issued rows
-      unfolding groupsHold
-      holds-one =
-          holds-middle front middle back starts (omega (arith, starts, part-length)) (freeInGroups (alike bits) 0 1 31)
-          (λ i byte h. rw (row-of i, same-span i, same-row i) refl)
-          ∙ ap (groupsHold (alike bits) from to issued) (put-same (from * 31) (end - from * 31) rows)
-
-      pub marked-one : (value : ℕ)
-          → putMid (from * 31) (end - from * 31) rows (groupsMarked (alike bits) 0 1 31 value middle) ≡ groupsMarked (alike bits) from to issued value rows
-      unfolding groupsMarked
-      marked-one value =
-          marked-middle front middle back starts (omega (arith, starts, part-length)) value (markedInGroups (alike bits) 0 1 31 value)
-          (λ i byte h. rw (row-of i, same-span i, same-row i) refl)
           ∙ ap (groupsMarked (alike bits) from to issued value) (put-same (from * 31) (end - from * 31) rows)

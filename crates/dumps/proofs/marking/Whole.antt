@@ -1,7 +1,7 @@
 -- The rows of a whole group and the one behind them: a mask picks a row's bit, and the loop over them takes a turn. Assumes nothing.
 use mathlib.Core.Path.{_≡_, refl, _∙_, ap, sym}
 use mathlib.Core.Bool.{Bool, true, false, cond}
-use mathlib.Core.List.{List, _++_}
+use mathlib.Core.List.{List}
 use mathlib.Core.Logic.{by-cases}
 use Prim.Native.Nat.{ℕ, _+_, _-_, _/_, _%_, _^_, _<_, _≤_}
 use native.Mathlib.Decide.{decLt}
@@ -9,15 +9,15 @@ use native.Mathlib.Nat.{mod-eq-of-lt}
 use native.Mathlib.Omega.{arith}
 use lib.Bits.{bitAnd, and-zero-r}
 use lib.Dec.{eqb}
-use lib.ListN.{length, getD, set, take, drop, take-append-drop}
+use lib.ListN.{length, getD, set, take, drop}
 use lib.Seq.{take-at, length-take-le}
 use borrow.Author.Tests.{eqb-true, eqb-false}
 use Rattle.groups.proofs.Group.{mask-clear, mask-set}
-use Rattle.dumps.specs.Dump.{eachRow, isClear, inSpan, freeInGroups, markedInGroups, groupsMarked, alike}
-use Rattle.dumps.proofs.EachRow.{length-each, each-append, each-keeps}
+use Rattle.dumps.specs.Dump.{eachRow, everyRow, isClear, freeInGroup, markedInGroup, inSpan, freeInGroups, markedInGroups, groupsHold, groupsMarked, alike}
+use Rattle.dumps.proofs.EachRow.{length-each}
 use Rattle.dumps.proofs.marking.HighestBit.{row-mask}
 use Rattle.dumps.proofs.marking.Passing.{Passing, next-row}
-use Rattle.dumps.proofs.marking.Spans.{in-span, behind-span}
+use Rattle.dumps.proofs.marking.Spans.{in-span, holds-part, marked-part}
 
 under-mask : (n k : ℕ) → eqb (bitAnd n (2 ^ k)) 0 ≡ eqb (n / 2 ^ k % 2) 0
 under-mask n k = go (eqb (bitAnd n (2 ^ k)) 0) refl
@@ -69,24 +69,15 @@ module _ (group value : ℕ) {rows₀ rows : List ℕ} {free row : ℕ}
       (rw s (told group row (getD rows row 0)) ∙ ap (freeInGroups (alike group) 0 1 31 row) was)
       (m ∙ ap (markedInGroups (alike group) 0 1 31 value row) was)
 
--- ---- marked in other bytes, of which the group's rows come back
+-- ---- the bytes of the group's rows, with a byte more
 
-module _ (group value : ℕ) (rows : List ℕ) (long : length rows ≡ 32) where
-  behind-kept : groupsMarked (alike group) 0 1 31 value rows ≡ eachRow (markedInGroups (alike group) 0 1 31 value) 0 (take 31 rows) ++ drop 31 rows
-  unfolding groupsMarked
-  behind-kept =
-      let change = markedInGroups (alike group) 0 1 31 value in
-      let front : length (take 31 rows) ≡ 31 = length-take-le 31 rows (omega arith) in
-      ap (eachRow change 0) (sym (take-append-drop 31 rows))
-      ∙ each-append change 0 (take 31 rows) (drop 31 rows)
-      ∙ ap (λ (bytes : List ℕ). eachRow change 0 (take 31 rows) ++ bytes)
-      (each-keeps change (0 + length (take 31 rows)) (drop 31 rows)
-      (λ i byte h. rw (behind-span (alike group) 31 0 1 (0 + length (take 31 rows) + i) (omega (arith, front))) refl))
+module _ (group : ℕ) (bytes : List ℕ) (long : length bytes ≡ 32) where
+  pub told-rows : groupsHold (alike group) 0 1 31 bytes ≡ everyRow (freeInGroup group) 0 (take 31 bytes)
+  told-rows = sym (holds-part group 0 1 31 bytes 31 (omega arith) (omega arith) refl)
 
-  pub comes-back : (marked : List ℕ) → marked ≡ groupsMarked (alike group) 0 1 31 value rows → take 31 marked ++ drop 31 rows ≡ groupsMarked (alike group) 0 1 31 value rows
-  comes-back marked m =
-      let change = markedInGroups (alike group) 0 1 31 value in
-      let front : length (eachRow change 0 (take 31 rows)) ≡ 31 = length-each change 0 (take 31 rows) ∙ length-take-le 31 rows (omega arith) in
-      ap (λ (bytes : List ℕ). take 31 bytes ++ drop 31 rows) (m ∙ behind-kept)
-      ∙ ap (λ (bytes : List ℕ). bytes ++ drop 31 rows) (take-at (eachRow change 0 (take 31 rows)) (drop 31 rows) 31 front)
-      ∙ sym behind-kept
+  pub marked-rows : (value : ℕ) → take 31 (groupsMarked (alike group) 0 1 31 value bytes) ≡ eachRow (markedInGroup group value) 0 (take 31 bytes)
+  marked-rows value =
+      let front : length (eachRow (markedInGroup group value) 0 (take 31 bytes)) ≡ 31 =
+      length-each (markedInGroup group value) 0 (take 31 bytes) ∙ length-take-le 31 bytes (omega arith) in
+      ap (take 31) (sym (marked-part group 0 1 31 bytes 31 (omega arith) (omega arith) refl value))
+      ∙ take-at (eachRow (markedInGroup group value) 0 (take 31 bytes)) (drop 31 bytes) 31 front

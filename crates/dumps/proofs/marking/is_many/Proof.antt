@@ -16,17 +16,11 @@ add-if3 c = search needs
 returns-3 : tie.Need-returns-3
 returns-3 c many = absurd (false≢true many)
 
-add-if4 : tie.Need-add-if4
-add-if4 c = search needs
-
-returns-4 : tie.Need-returns-4
-returns-4 c many = absurd (false≢true many)
-
 sub-result : tie.Need-sub-result
 sub-result c = search needs
 
-returns-5 : tie.Need-returns-5
-returns-5 c = search needs
+returns-4 : tie.Need-returns-4
+returns-4 c = search needs
 
 pub is-many-spec : {M : Type 1} → statement M
-is-many-spec = tie.close (tie.spec returns returns-2 add-if3 returns-3 add-if4 returns-4 sub-result returns-5)
+is-many-spec = tie.close (tie.spec returns returns-2 add-if3 returns-3 sub-result returns-4)

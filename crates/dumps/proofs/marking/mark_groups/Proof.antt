@@ -1,10 +1,10 @@
 -- `mark_groups` meets its contract: the rows of the groups are a part of all rows. Assumes nothing.
 use mathlib.Core.Path.{_≡_, _∙_}
-use Prim.Native.Nat.{_+_, _*_, _≤_}
+use Prim.Native.Nat.{min, _+_, _*_, _≤_}
 use native.Mathlib.Omega.{arith}
 use borrow.Author.Needs.{needs}
 use borrow.Rule.Slice.PartMut.{mid-len}
-use Rattle.dumps.proofs.marking.Spans.{holds-part, marked-part, holds-one, marked-one}
+use Rattle.dumps.proofs.marking.Spans.{holds-part, marked-part}
 use Rattle.dumps.proofs.marking.mark_groups.Statement.{statement}
 use Rattle.dumps.proofs.marking.mark_groups.Tie as tie
 
@@ -24,7 +24,7 @@ part-mark-many-start : tie.Need-part-mark-many-start
 part-mark-many-start c = search needs
 
 part-mark-many-end : tie.Need-part-mark-many-end
-part-mark-many-end c = c .before .is-many .ensures (c .if1 .taken) .3
+part-mark-many-end c = omega (arith, c .before .is-many .ensures (c .if1 .taken) .2)
 
 mark-many-requires : tie.Need-mark-many-requires
 mark-many-requires c κs = search needs
@@ -40,10 +40,10 @@ returns c =
     let one : args .end ≡ args .group + 1 = omega (arith, start .pre .1, start .pre .2 (many .0) (many .1)) in
     let whole : args .end * 31 ≤ args .issued = omega (arith, many .2) in
     let marks = c .before .before .mark-many .ensures in
-    let holds = holds-one (args .bits) (args .group) (args .end) (args .issued) (args .rows .now) (args .group * 31 + 32) (omega arith) (many .3)
-    one whole (omega arith) in
-    let marked = marked-one (args .bits) (args .group) (args .end) (args .issued) (args .rows .now) (args .group * 31 + 32) (omega arith) (many .3)
-    one whole (omega arith) (args .value) in
+    let stops : args .group * 31 + 31 ≡ min (args .end * 31) (args .issued) = omega arith in
+    let holds = holds-part (args .bits) (args .group) (args .end) (args .issued) (args .rows .now) (args .group * 31 + 31) (omega arith) (omega arith) stops in
+    let marked = marked-part (args .bits) (args .group) (args .end) (args .issued) (args .rows .now) (args .group * 31 + 31) (omega arith) (omega arith) stops
+    (args .value) in
     (marks .0 ∙ holds, λ held. rw (marks .1 held) marked)
 
 mul-smaller : tie.Need-mul-smaller
