@@ -81,8 +81,9 @@ fn copy_rows(from: &[u8], to: &mut [u8], first: usize, count: usize)
 }
 
 // Gives the value to each row of a whole group whose bit is 1, in other bytes. The rows are copied there
-// and back as sixteen and twice eight, one of them twice: the compiler does each at once. Nothing behind
-// the group is written, or the next group's load of sixteen bytes from there on would wait for it.
+// and back as sixteen and twice eight, one of them twice: the compiler does each at once. (It does not if
+// the three are a function of their own.) Nothing behind the group is written, or the next group's load
+// of sixteen bytes from there on would wait for it.
 fn mark_many(rows: &mut [u8], group: u32, value: u8) -> bool
     requires { ⌜ length (now rows) ≡ 31 ⌝ }
     ensures { λ r. ⌜ (r ≡ everyRow (freeInGroup group) 0 (now (rows .entry)))
