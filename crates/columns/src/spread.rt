@@ -19,9 +19,6 @@ use words::word::ALL_ONES;
 // The most values of an index.
 const VALUE_LIMIT: usize = 64;
 
-// Twice the mask of a group's first row: the mask of each row is half that of the row before.
-const BEFORE_FIRST: u32 = 0x80000000;
-
 // Adds a row's mask to the group of its value; a byte that is no value has no group.
 fn add_row(groups: &mut [u32], byte: u8, mask: u32)
     requires { ⌜ (byte < length (now groups) → getD (now groups) byte 0 + mask < 2 ^ 32) ⌝ }
@@ -33,44 +30,17 @@ fn add_row(groups: &mut [u32], byte: u8, mask: u32)
     }
 }
 
-// Gathers 31 rows into groups that are all zero. With a fixed number of turns the loop has no rest to care
-// for, and costs less than that of `gather_short`.
-fn gather_whole(rows: &[u8], groups: &mut [u32])
-    requires { ⌜ (length (now rows) ≡ 31) × ((value : ℕ) → getD (now groups) value 0 ≡ 0) ⌝ }
-    ensures { λ _. ⌜ ((value : ℕ) → value < length (now (groups .entry)) → getD (now (groups .exit)) value 0 ≡ groupOf 31 (rowsWith value (now (rows .entry)))) ⌝ }
-{
-    let mut mask: u32 = BEFORE_FIRST;
-    let mut i: usize = 0;
-    while i < 31 {
-        mask = mask / 2;
-        add_row(groups, rows[i], mask);
-        i += 1;
-    }
-}
-
-// Gathers at most 31 rows into groups that are all zero, one after the other.
-fn gather_short(rows: &[u8], groups: &mut [u32])
-    requires { ⌜ (length (now rows) ≤ 31) × ((value : ℕ) → getD (now groups) value 0 ≡ 0) ⌝ }
-    ensures { λ _. ⌜ ((value : ℕ) → value < length (now (groups .entry)) → getD (now (groups .exit)) value 0 ≡ groupOf 31 (rowsWith value (now (rows .entry)))) ⌝ }
-{
-    let mut mask: u32 = BEFORE_FIRST;
-    let mut i: usize = 0;
-    while i < rows.len() {
-        mask = mask / 2;
-        add_row(groups, rows[i], mask);
-        i += 1;
-    }
-}
-
 // Gathers at most 31 rows into groups that are all zero: each value's group has the rows that hold it.
 fn gather_groups(rows: &[u8], groups: &mut [u32])
     requires { ⌜ (length (now rows) ≤ 31) × ((value : ℕ) → getD (now groups) value 0 ≡ 0) ⌝ }
     ensures { λ _. ⌜ ((value : ℕ) → value < length (now (groups .entry)) → getD (now (groups .exit)) value 0 ≡ groupOf 31 (rowsWith value (now (rows .entry)))) ⌝ }
 {
-    if rows.len() == 31 {
-        gather_whole(rows, groups);
-    } else {
-        gather_short(rows, groups);
+    let mut mask: u32 = 0x80000000;
+    let mut i: usize = 0;
+    while i < rows.len() {
+        mask = mask / 2;
+        add_row(groups, rows[i], mask);
+        i += 1;
     }
 }
 

@@ -1,12 +1,12 @@
--- `gather_short` meets its contract: after i turns the first i rows are gathered. Assumes nothing.
+-- `gather_groups` meets its contract: after i turns the first i rows are gathered. Assumes nothing.
 use mathlib.Core.Path.{refl, _∙_}
 use Prim.Native.Nat.{_-_}
 use native.Mathlib.Omega.{arith}
 use lib.ListN.{length}
 use lib.Seq.{take-all}
 use Rattle.columns.proofs.spread.Gathering.{Gathering, gather-none, row-fits, gather-more}
-use Rattle.columns.proofs.spread.gather_short.Statement.{statement}
-use Rattle.columns.proofs.spread.gather_short.Tie as tie
+use Rattle.columns.proofs.spread.gather_groups.Statement.{statement}
+use Rattle.columns.proofs.spread.gather_groups.Tie as tie
 
 abbrev Inv-loop : tie.InvT-loop
 Inv-loop rows groups₀ mask₀ i₀ groups mask i = Gathering rows groups₀ groups mask i
@@ -46,8 +46,8 @@ returns c =
     let rows = c .before .before .before .before .args .rows .now in
     λ value below. loop .inv .each value below ∙ rw (take-all (loop .i) rows (c .loop-test .left)) refl
 
-pub gather-short-spec : {M : Type 1} → statement M
-gather-short-spec =
+pub gather-groups-spec : {M : Type 1} → statement M
+gather-groups-spec =
     tie.close
     (tie.spec
     Inv-loop
