@@ -15,8 +15,8 @@ use Rattle.blocks.specs.Block.{part, write}
 use Rattle.blocks.specs.declared.shape.Shape.{Shape}
 use Rattle.blocks.proofs.Parts.{length-write, part-write, part-apart}
 use Rattle.blocks.proofs.Sizes.{places-apart}
-use Rattle.columns.specs.Column.{loaded, packedBlock}
-use Rattle.columns.proofs.Columns.{length-loaded, packed-loaded, length-packedBlock, filled-part}
+use Rattle.listings.specs.Column.{loaded, packedBlock}
+use Rattle.listings.proofs.Columns.{length-loaded, packed-loaded, length-packedBlock, filled-part}
 use Rattle.columns.specs.Spread.{Spread, blocksTo, packedWords, loadedWords}
 
 -- ---- blocks one after the other

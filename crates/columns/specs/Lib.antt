@@ -1,3 +1,1 @@
-pub mod Column
-pub mod Listing
 pub mod Spread

@@ -9,8 +9,8 @@ use Rattle.groups.specs.Rows.{groupsFor, groupsOf}
 use Rattle.blocks.specs.Shape.{Limits, blockSize}
 use Rattle.blocks.specs.Block.{part, write}
 use Rattle.blocks.specs.declared.shape.Shape.{Shape}
-use Rattle.columns.specs.Column.{rowsWith, loaded, packedBlock}
-use Rattle.columns.specs.Listing.{allAlike}
+use Rattle.listings.specs.Column.{rowsWith, loaded, packedBlock}
+use Rattle.listings.specs.Listing.{allAlike}
 use Rattle.steps.specs.declared.entry.Plan.{Plan}
 
 -- the sizes are those of a header within its limits, and the blocks of the first values lie inside so many words

@@ -1,8 +1,7 @@
-// What Load does with a column: its refusals, the groups of all values in one pass over the rows, and the
-// list of each value from its groups.
+// What Load does with a column: its refusals, the groups of all values in one pass over the rows, and each
+// value's list in its block.
 //
-// Below it stands `steps`, which has the header and the refusals that calls begin with; above it `index`,
-// which has the fence records.
+// Below it stand `listings`, for the list of one value, and `steps`, which has the header and the refusals that
+// calls begin with; above it `index`, which has the fence records.
 pub mod column;
-pub mod listing;
 pub mod spread;

@@ -16,10 +16,10 @@ use Rattle.groups.proofs.RowsBack.{same-groups}
 use Rattle.words.proofs.Round.{Groups, decode-groups}
 use Rattle.blocks.specs.Shape.{Limits}
 use Rattle.blocks.specs.Block.{current}
-use Rattle.columns.specs.Column.{groupsWith, listFor}
+use Rattle.listings.specs.Column.{groupsWith, listFor}
 use Rattle.blocks.specs.Whole.{wholeLists}
 use Rattle.blocks.specs.declared.shape.Shape.{Shape}
-use Rattle.columns.proofs.Columns.{row-held, row-past, decode-listFor, canonical-listFor}
+use Rattle.listings.proofs.Columns.{row-held, row-past, decode-listFor, canonical-listFor}
 use Rattle.blocks.proofs.WholeLists.{length-current, decode-current}
 use Rattle.steps.specs.Memory.{Memory, shapeOf, rowsIn, blockAt}
 use Rattle.index.specs.Soundness.{Sound}

@@ -11,7 +11,7 @@ use Rattle.blocks.specs.Block.{part, write, valueWords, updateWords, valueList,
 use Rattle.blocks.specs.Read.{readValue, readUpdate, readGroup}
 use Rattle.blocks.specs.Whole.{updateOnes, wholeLists}
 use Rattle.values.specs.Change.{merged, turnedList, turned, mergeDue, flipped}
-use Rattle.columns.specs.Column.{listFor, loaded}
+use Rattle.listings.specs.Column.{listFor, loaded}
 use Rattle.blocks.specs.Fences.{fenceAt}
 use Rattle.steps.specs.Memory.{limits, withinLimits, lent, blockAt, rowsIn}
 use Rattle.steps.specs.Reading.{fenceFor, readIn, rowOf, valueOf}

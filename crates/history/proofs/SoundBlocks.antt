@@ -20,7 +20,7 @@ use Rattle.values.proofs.Flipping.{kept-ready, merged-ready}
 use Rattle.values.proofs.Turning.{Spare, turnedList-fits, value-turned, update-turned, decode-turned, whole-turned}
 use Rattle.blocks.proofs.WholeLists.{whole-parts, parts-whole, rowAt-current, current-fits, decode-current, canonical-current}
 use Rattle.blocks.proofs.ZeroList.{length-zeroList, decode-zeroList, canonical-zeroList}
-use Rattle.columns.proofs.listing.Rows.{getD-padded}
+use Rattle.listings.proofs.listing.Rows.{getD-padded}
 use Rattle.index.specs.Soundness.{SoundLists}
 
 -- the lists are whole

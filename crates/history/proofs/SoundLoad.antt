@@ -14,8 +14,8 @@ use Rattle.groups.specs.Rows.{rowAt}
 use Rattle.words.specs.Words.{decode}
 use Rattle.groups.proofs.Tail.{clearFrom-rowAt}
 use Rattle.blocks.specs.Shape.{Limits, blockSize, fenceCount}
-use Rattle.columns.specs.Column.{groupsWith, listFor, loaded}
-use Rattle.columns.proofs.Columns.{row-held, row-past, length-listFor, clear-listFor, canonical-listFor, length-loaded, current-loaded}
+use Rattle.listings.specs.Column.{groupsWith, listFor, loaded}
+use Rattle.listings.proofs.Columns.{row-held, row-past, length-listFor, clear-listFor, canonical-listFor, length-loaded, current-loaded}
 use Rattle.blocks.proofs.Sizes.{place-fits}
 use Rattle.steps.specs.Memory.{Memory, limits, withinLimits, shapeOf, lent, blockAt, rowsIn}
 use Rattle.index.specs.Soundness.{SoundLists, FencesRight, Sound}

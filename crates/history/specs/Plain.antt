@@ -10,7 +10,7 @@ use Rattle.answers.specs.Outcome.{Check, _when_, Outcome, outcome}
 use Rattle.answers.specs.declared.Refusal.the-variants.{BadHeader, Small, BadValue, NoRow, Full, Gone, OutSmall}
 use Rattle.groups.specs.Rows.{groupsFor, cut}
 use Rattle.words.specs.Words.{encode}
-use Rattle.columns.specs.Column.{rowsWith}
+use Rattle.listings.specs.Column.{rowsWith}
 use Rattle.steps.specs.Memory.{limits, lent}
 use Rattle.steps.specs.Entry.{validColumn}
 use Rattle.index.specs.Calls.{loadHeader}

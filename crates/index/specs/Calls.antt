@@ -12,7 +12,7 @@ use Rattle.blocks.specs.Shape.{blockSize, fenceCount}
 use Rattle.blocks.specs.Block.{write, valueList}
 use Rattle.blocks.specs.Whole.{wholeLists}
 use Rattle.values.specs.Change.{merged, mergeDue, flipped}
-use Rattle.columns.specs.Column.{loaded}
+use Rattle.listings.specs.Column.{loaded}
 use Rattle.steps.specs.Entry.{validColumn, headerFor, noHeader, grown}
 use Rattle.steps.specs.Fences.{fencesFrom}
 use Rattle.steps.specs.Memory.{Memory, limits, withinLimits, shapeOf, lent, blockAt, rowsIn, every, isSound}

@@ -5,7 +5,7 @@ use Rattle.words.specs.Words.{runOf, addGroup, canonical}
 use Rattle.lists.specs.Combine.{onGroup}
 use Rattle.blocks.specs.Shape.{fenceCount}
 use Rattle.blocks.specs.Block.{part, write, valueWords, updateWords, valueList, updateList, current, padded, blockOf, zeroList}
-use Rattle.columns.specs.Column.{listFor, loaded}
+use Rattle.listings.specs.Column.{listFor, loaded}
 use Rattle.blocks.specs.Whole.{updateOnes, wholeLists}
 use Rattle.steps.specs.Memory.{limits, withinLimits, lent, blockAt, rowsIn}
 use Rattle.index.specs.Calls.{whole, withBlock, renewed, loadAfter, queryList, queryOutcome}

@@ -12,9 +12,9 @@ use lib.Seq.{getD-take, getD-drop, length-take-le}
 use borrow.Author.Tests.{eqb-true, eq-eqb}
 use Rattle.groups.specs.Rows.{groupOf}
 use Rattle.words.specs.Words.{allOnes}
-use Rattle.columns.specs.Column.{rowsWith}
-use Rattle.columns.specs.Listing.{allAlike}
-use Rattle.columns.proofs.listing.Alike.{alike-replicate}
+use Rattle.listings.specs.Column.{rowsWith}
+use Rattle.listings.specs.Listing.{allAlike}
+use Rattle.listings.proofs.listing.Alike.{alike-replicate}
 use Rattle.columns.specs.Spread.{oneByte}
 
 alike-each : (byte : ℕ) (rows : List ℕ) → allAlike byte rows ≡ true → (i : ℕ) → i < length rows → getD rows i 0 ≡ byte

@@ -13,8 +13,8 @@ use lib.Seq.{getD-set-same, getD-set-other}
 use borrow.Author.Tests.{eqb-true, eqb-false}
 use Rattle.groups.specs.Rows.{groupOf}
 use Rattle.groups.proofs.Group.{groupOf-nil, groupOf-lt}
-use Rattle.columns.specs.Column.{rowsWith}
-use Rattle.columns.proofs.listing.Rows.{length-rowsWith, getD-rowsWith, rowsWith-take, rowsWith-bits}
+use Rattle.listings.specs.Column.{rowsWith}
+use Rattle.listings.proofs.listing.Rows.{length-rowsWith, getD-rowsWith, rowsWith-take, rowsWith-bits}
 
 -- one row more in a group
 groupOf-more : (k i : ℕ) (rows : List ℕ) → i < length rows → i < k

@@ -11,8 +11,8 @@ use Rattle.groups.proofs.Groups.{groupsOf-next, groupsOf-past, getD-zeros}
 use Rattle.blocks.specs.Block.{part}
 use Rattle.blocks.proofs.Parts.{length-part, getD-part}
 use Rattle.blocks.proofs.Sizes.{place-fits}
-use Rattle.columns.specs.Column.{rowsWith}
-use Rattle.columns.proofs.listing.Rows.{length-rowsWith, rowsWith-take, rowsWith-drop}
+use Rattle.listings.specs.Column.{rowsWith}
+use Rattle.listings.proofs.listing.Rows.{length-rowsWith, rowsWith-take, rowsWith-drop}
 use Rattle.columns.specs.Spread.{Clear, Placed, Spread}
 use Rattle.columns.proofs.spread.Placing.{same-block}
 

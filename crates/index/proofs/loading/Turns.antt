@@ -9,8 +9,8 @@ use lib.ListN.{length}
 use Rattle.blocks.specs.Shape.{blockSize}
 use Rattle.blocks.specs.Block.{write, valueLength}
 use Rattle.blocks.proofs.Sizes.{place-fits}
-use Rattle.columns.specs.Column.{loaded}
-use Rattle.columns.proofs.Columns.{whole-loaded}
+use Rattle.listings.specs.Column.{loaded}
+use Rattle.listings.proofs.Columns.{whole-loaded}
 use Rattle.steps.specs.Entry.{Planned}
 use Rattle.values.specs.Alter.{isWhole, renewedFences}
 use Rattle.steps.specs.Plans.{Fenced, blockIn}

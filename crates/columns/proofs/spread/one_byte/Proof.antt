@@ -5,7 +5,7 @@ use native.Mathlib.Omega.{arith}
 use lib.ListN.{length, getD, take, drop}
 use borrow.Author.Needs.{needs}
 use borrow.Author.Tests.{eq-eqb, ne-eqb, not-true, not-false}
-use Rattle.columns.specs.Listing.{allAlike}
+use Rattle.listings.specs.Listing.{allAlike}
 use Rattle.columns.proofs.spread.Alike.{window-length, two-windows}
 use Rattle.columns.proofs.spread.one_byte.Statement.{statement}
 use Rattle.columns.proofs.spread.one_byte.Tie as tie

@@ -5,8 +5,8 @@ use Prim.Native.Nat.{_-_, _≤_}
 use native.Mathlib.Omega.{arith}
 use lib.Dec.{eqb}
 use lib.ListN.{drop}
-use Rattle.columns.specs.Listing.{allAlike}
-use Rattle.columns.proofs.listing.Alike.{differs-more, differs-all}
+use Rattle.listings.specs.Listing.{allAlike}
+use Rattle.listings.proofs.listing.Alike.{differs-more, differs-all}
 use Rattle.columns.proofs.spread.sixteen_alike.Statement.{statement}
 use Rattle.columns.proofs.spread.sixteen_alike.Tie as tie
 

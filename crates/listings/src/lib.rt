@@ -1,0 +1,6 @@
+// The list of one value from its groups, as Load makes it: the groups stand in the room of V and become the
+// list there, eight at a time.
+//
+// Below stand `words`, which has the writer of lists, and `values`, for a block with empty updates. It
+// knows nothing of columns and headers.
+pub mod listing;
