@@ -57,10 +57,10 @@ use Rattle.walks.proofs.Flow.{told-enum, frees-all, empties, big-lit}
 use Rattle.walks.proofs.Local.{repeats, lend-array, back-array}
 use Rattle.walks.proofs.Front.{front, refronted, front-length}
 use Rattle.walks.proofs.Calls.{contractOf, calls-plain, calls-shr-shr-front, calls-view}
-use Rattle.groups.proofs.rows.smaller as words-rows-smaller-F
-use Rattle.groups.proofs.rows.smaller.Symbol as words-rows-smaller-def
-use Rattle.groups.proofs.rows.smaller.Symbol.{name as #words·words-rows-smaller}
-use Rattle.groups.proofs.rows.smaller.Met as words-rows-smaller-thm
+use Rattle.groups.proofs.rows.smaller as groups-rows-smaller-F
+use Rattle.groups.proofs.rows.smaller.Symbol as groups-rows-smaller-def
+use Rattle.groups.proofs.rows.smaller.Symbol.{name as #groups·groups-rows-smaller}
+use Rattle.groups.proofs.rows.smaller.Met as groups-rows-smaller-thm
 use Rattle.index.proofs.dumping.dump as dump-F
 use Rattle.index.proofs.dumping.dump.Symbol as dump-def
 use Rattle.index.proofs.dumping.dump.Symbol.{name as #index·dump}
@@ -113,7 +113,7 @@ module _ {M : Type 1} (𝓤 : URA M) (H : Heap 𝓤) (A : Atoms 𝓤) (W : Given
       suffices ! _ (ends-at 𝓤 H A ask-dump-F.ended stayed (ask-dump-F.clauses 𝓤 H A mem run) W bound-of vunit tt (tt, (tt, (tt, tt))) (tt, (tt, (tt, tt)))) $ empties ! $
       nothing ! $ move ! (2 ∷ 0 ∷ []) $ join ! $ move ! (1 ∷ 0 ∷ []) $ join ! $ frame ! $ nothing ! $ nothing ! $ fjoin ! $ nothing ! $ fjoin ! $ nothing ! $ fjoin ! $ frame ! $ feqI ! (List Val) (vunit ∷ []) (vunit ∷ []) refl $ done !
 
-  module _ (𝓣 : Tables 𝓤 H) (fm : FmC 𝓤 H (W .laws) (𝓣 .C)) (known-words-rows-smaller : Triple 𝓤 (𝓣 .C #words·words-rows-smaller) (contractOf 𝓤 H A words-rows-smaller-F.ended (words-rows-smaller-F.clauses 𝓤 H A mem run))) (known-dump : Triple 𝓤 (𝓣 .C #index·dump) (contractOf 𝓤 H A dump-F.ended (dump-F.clauses 𝓤 H A mem run))) (known-say-dump : Triple 𝓤 (𝓣 .C #lines·say-dump) (contractOf 𝓤 H A say-dump-F.ended (say-dump-F.clauses 𝓤 H A mem run))) where
+  module _ (𝓣 : Tables 𝓤 H) (fm : FmC 𝓤 H (W .laws) (𝓣 .C)) (known-groups-rows-smaller : Triple 𝓤 (𝓣 .C #groups·groups-rows-smaller) (contractOf 𝓤 H A groups-rows-smaller-F.ended (groups-rows-smaller-F.clauses 𝓤 H A mem run))) (known-dump : Triple 𝓤 (𝓣 .C #index·dump) (contractOf 𝓤 H A dump-F.ended (dump-F.clauses 𝓤 H A mem run))) (known-say-dump : Triple 𝓤 (𝓣 .C #lines·say-dump) (contractOf 𝓤 H A say-dump-F.ended (say-dump-F.clauses 𝓤 H A mem run))) where
     walk : Room u32 (length words) → Room Fence-T.the-row (length fences) → Is Lent-T.the-row lent (SL.vals Lent-T.the-type Lent-L.the-laws lent) → ent 𝓤 (onEntry 𝓤 H A ask-dump-F.signature (κ₀, (κ₁, tt)) (q₀, (q₁, tt)) args-of vals-of) (WpFn 𝓤 H (𝓣 .C) (𝓣 .Λ) code.function (sliceVal (b₀, o₀) (length words) ∷ sliceVal (b₁, o₁) (length fences) ∷ SL.val Lent-T.the-type Lent-L.the-laws lent ∷ []) Post)
     walk room-words room-fences is-lent =
         qed W ((‵ (flft κ₀ q₀) ⊛ (‵ (flft κ₁ q₁) ⊛ ‵ ftrue)) ∷ ‵ (owns (ShrSlice (named 0) κ₀ u32 ∷ ShrSlice (named 1) κ₁ Fence-T.the-row ∷ Lent-T.the-row ∷ []) args-of vals-of) ∷ []) ∵ enter ! (𝓣 .C) (𝓣 .Λ) code.function (sliceVal (b₀, o₀) (length words) ∷ sliceVal (b₁, o₁) (length fences) ∷ SL.val Lent-T.the-type Lent-L.the-laws lent ∷ []) _ $
@@ -125,8 +125,8 @@ module _ {M : Type 1} (𝓤 : URA M) (H : Heap 𝓤) (A : Atoms 𝓤) (W : Given
         -- rows is lent
         move ! (18 ∷ []) $ lend-array ! tt u8 tt (uint-makes 𝓤 H A W w8) 126976 each-rows (vint w8 each-rows) l₄ (refl, (lit< tt)) (lit< tt, lit< tt) (λ ν′₄ δ′₄.
         move ! (0 ∷ 1 ∷ 3 ∷ 4 ∷ 5 ∷ 6 ∷ 7 ∷ 8 ∷ 9 ∷ 10 ∷ 11 ∷ 12 ∷ 13 ∷ 14 ∷ 15 ∷ 16 ∷ 17 ∷ 18 ∷ 19 ∷ 20 ∷ []) $
-        -- words::rows::smaller
-        calls-plain ! fm usize (plain (λ _. usize) ∷ plain (λ _. usize) ∷ []) (yes, (yes, tt)) (words-rows-smaller-F.clauses 𝓤 H A mem run) known-words-rows-smaller
+        -- groups::rows::smaller
+        calls-plain ! fm usize (plain (λ _. usize) ∷ plain (λ _. usize) ∷ []) (yes, (yes, tt)) (groups-rows-smaller-F.clauses 𝓤 H A mem run) known-groups-rows-smaller
         (λ κs. ((lent .room), (126976, tt))) (λ κs. (vint w64 (lent .room) ∷ [], (vint w64 126976 ∷ [], tt))) (λ κs. owns-make 𝓤 H A (usize ∷ usize ∷ []) (Ises (usize ∷ usize ∷ [])) (uint-makes 𝓤 H A W w64, (uint-makes 𝓤 H A W w64, tt)) ((lent .room), (126976, tt)) (vint w64 (lent .room) ∷ [], (vint w64 126976 ∷ [], tt)) ((refl, (SL.owed Lent-T.the-type Lent-L.the-laws lent _ is-lent .1 .0 .1)), ((refl, (lit< tt)), tt))) (λ κs. tt) (λ κs. id⊢ 𝓤 _)
         (λ r1. r1 ≡ min (lent .room) 126976) (λ κs r1 ws. id⊢ 𝓤 _) (λ κs. (and-then ! (load ! (from ! (fld ! refl (stop !))) (look-in ! 23 (sub ! 1 refl (whole !)))) (and-then ! (big-lit ! (record { fits = lit< tt })) (no-more !))))
         (λ u1 r1 e1 is1.
@@ -158,15 +158,15 @@ module _ {M : Type 1} (𝓤 : URA M) (H : Heap 𝓤) (A : Atoms 𝓤) (W : Given
         by ! (exits))))))))))))))))))
 
 module _ {M : Type 1} (𝓤 : URA M) (H : Heap 𝓤) (A : Atoms 𝓤) (W : Given 𝓤 H A) (mem : Memory → SProp 𝓤) (run : Routine → Fun 𝓤) where
-  ask-dump-walks : (𝓣 : Tables 𝓤 H) → Triple 𝓤 (𝓣 .C #words·words-rows-smaller) (contractOf 𝓤 H A words-rows-smaller-F.ended (words-rows-smaller-F.clauses 𝓤 H A mem run)) → Triple 𝓤 (𝓣 .C #index·dump) (contractOf 𝓤 H A dump-F.ended (dump-F.clauses 𝓤 H A mem run)) → Triple 𝓤 (𝓣 .C #lines·say-dump) (contractOf 𝓤 H A say-dump-F.ended (say-dump-F.clauses 𝓤 H A mem run)) → Walks 𝓤 H A ask-dump-F.ended stayed (WpFn 𝓤 H (𝓣 .C) (𝓣 .Λ) code.function) (ask-dump-F.clauses 𝓤 H A mem run)
-  ask-dump-walks 𝓣 known-words-rows-smaller known-dump known-say-dump =
+  ask-dump-walks : (𝓣 : Tables 𝓤 H) → Triple 𝓤 (𝓣 .C #groups·groups-rows-smaller) (contractOf 𝓤 H A groups-rows-smaller-F.ended (groups-rows-smaller-F.clauses 𝓤 H A mem run)) → Triple 𝓤 (𝓣 .C #index·dump) (contractOf 𝓤 H A dump-F.ended (dump-F.clauses 𝓤 H A mem run)) → Triple 𝓤 (𝓣 .C #lines·say-dump) (contractOf 𝓤 H A say-dump-F.ended (say-dump-F.clauses 𝓤 H A mem run)) → Walks 𝓤 H A ask-dump-F.ended stayed (WpFn 𝓤 H (𝓣 .C) (𝓣 .Λ) code.function) (ask-dump-F.clauses 𝓤 H A mem run)
+  ask-dump-walks 𝓣 known-groups-rows-smaller known-dump known-say-dump =
       walked 𝓤 H A ask-dump-F.ended stayed (ask-dump-F.clauses 𝓤 H A mem run) (WpFn 𝓤 H (𝓣 .C) (𝓣 .Λ) code.function) (λ κs. (slice-vals, (slice-vals, (SL.vals Lent-T.the-type Lent-L.the-laws, tt)))) (λ κs. (shr-slice-tells (named 0) (κs .0) u32, (shr-slice-tells (named 1) (κs .1 .0) Fence-T.the-row, (SL.tells Lent-T.the-type Lent-L.the-laws, tt))))
-      (λ κs qs bounds a g are. via 𝓤 _ (fst∗ 𝓤 _ (emp 𝓤)) (walk 𝓤 H A W mem run (κs .0) (κs .1 .0) (qs .0) (qs .1 .0) (a .0 .ptr .0) (a .0 .ptr .1) (a .0 .name) (a .0 .now) (a .1 .0 .ptr .0) (a .1 .0 .ptr .1) (a .1 .0 .name) (a .1 .0 .now) (a .1 .1 .0) 𝓣 (fmOf 𝓤 H (W .laws) 𝓣) known-words-rows-smaller known-dump known-say-dump (are .0 .0 .1) (are .1 .0 .0 .1) (are .1 .1 .0)))
+      (λ κs qs bounds a g are. via 𝓤 _ (fst∗ 𝓤 _ (emp 𝓤)) (walk 𝓤 H A W mem run (κs .0) (κs .1 .0) (qs .0) (qs .1 .0) (a .0 .ptr .0) (a .0 .ptr .1) (a .0 .name) (a .0 .now) (a .1 .0 .ptr .0) (a .1 .0 .ptr .1) (a .1 .0 .name) (a .1 .0 .now) (a .1 .1 .0) 𝓣 (fmOf 𝓤 H (W .laws) 𝓣) known-groups-rows-smaller known-dump known-say-dump (are .0 .0 .1) (are .1 .0 .0 .1) (are .1 .1 .0)))
 
-ask-dump-meets : {M : Type 1} (𝓤 : URA M) (H : Heap 𝓤) (A : Atoms 𝓤) (W : Given 𝓤 H A) (mem : Memory → SProp 𝓤) (run : Routine → Fun 𝓤) (𝓣 : Tables 𝓤 H) → Triple 𝓤 (𝓣 .C #words·words-rows-smaller) (contractOf 𝓤 H A words-rows-smaller-F.ended (words-rows-smaller-F.clauses 𝓤 H A mem run)) → Triple 𝓤 (𝓣 .C #index·dump) (contractOf 𝓤 H A dump-F.ended (dump-F.clauses 𝓤 H A mem run)) → Triple 𝓤 (𝓣 .C #lines·say-dump) (contractOf 𝓤 H A say-dump-F.ended (say-dump-F.clauses 𝓤 H A mem run)) → Meets 𝓤 H A ask-dump-F.signature (WpFn 𝓤 H (𝓣 .C) (𝓣 .Λ) code.function) (ask-dump-F.spec 𝓤 H A mem run)
-ask-dump-meets 𝓤 H A W mem run 𝓣 known-words-rows-smaller known-dump known-say-dump =
+ask-dump-meets : {M : Type 1} (𝓤 : URA M) (H : Heap 𝓤) (A : Atoms 𝓤) (W : Given 𝓤 H A) (mem : Memory → SProp 𝓤) (run : Routine → Fun 𝓤) (𝓣 : Tables 𝓤 H) → Triple 𝓤 (𝓣 .C #groups·groups-rows-smaller) (contractOf 𝓤 H A groups-rows-smaller-F.ended (groups-rows-smaller-F.clauses 𝓤 H A mem run)) → Triple 𝓤 (𝓣 .C #index·dump) (contractOf 𝓤 H A dump-F.ended (dump-F.clauses 𝓤 H A mem run)) → Triple 𝓤 (𝓣 .C #lines·say-dump) (contractOf 𝓤 H A say-dump-F.ended (say-dump-F.clauses 𝓤 H A mem run)) → Meets 𝓤 H A ask-dump-F.signature (WpFn 𝓤 H (𝓣 .C) (𝓣 .Λ) code.function) (ask-dump-F.spec 𝓤 H A mem run)
+ask-dump-meets 𝓤 H A W mem run 𝓣 known-groups-rows-smaller known-dump known-say-dump =
     walk-meets 𝓤 H A ask-dump-F.ended stayed W (goes-dropped 𝓤 H A W 2 (shrSliceOf (0 ∷ []) tt (plain (λ _. u32))) yes (λ κs x f. refl), (goes-dropped 𝓤 H A W 2 (shrSliceOf (1 ∷ []) tt (plain (λ _. Fence-T.the-row))) yes (λ κs x f. refl), (goes-dropped 𝓤 H A W 2 (plain (λ _. Lent-T.the-row)) yes (λ κs x f. refl), tt)))
-    (ask-dump-F.clauses 𝓤 H A mem run) (WpFn 𝓤 H (𝓣 .C) (𝓣 .Λ) code.function) (WpFn-mono 𝓤 H (W .laws) 𝓣 code.function) (ask-dump-walks 𝓤 H A W mem run 𝓣 known-words-rows-smaller known-dump known-say-dump)
+    (ask-dump-F.clauses 𝓤 H A mem run) (WpFn 𝓤 H (𝓣 .C) (𝓣 .Λ) code.function) (WpFn-mono 𝓤 H (W .laws) 𝓣 code.function) (ask-dump-walks 𝓤 H A W mem run 𝓣 known-groups-rows-smaller known-dump known-say-dump)
 
 pub ask-dump-spec : {M : Type 1} → stated.statement M
 unfolding code.routine tablesOf
@@ -174,6 +174,6 @@ ask-dump-spec 𝓤 H 𝓜 𝓖 𝓡 =
     entered 𝓤 H (tripleOf 𝓤 H (𝓖 .A) ask-dump-F.signature (ask-dump-F.spec 𝓤 H (𝓖 .A) (𝓜 .mem) (𝓡 .run)))
     (tables 𝓤 H 𝓜 𝓡 code.env .C) (tables 𝓤 H 𝓜 𝓡 code.env .Λ) #desk·ask-dump code.function (code.unfolded 𝓤 H 𝓜 𝓡)
     (ask-dump-meets 𝓤 H (𝓖 .A) (givenOf 𝓤 H 𝓜 𝓖) (𝓜 .mem) (𝓡 .run) (tablesOf 𝓤 H 𝓜 (tables 𝓤 H 𝓜 𝓡 code.env))
-    (cited 𝓤 H (tripleOf 𝓤 H (𝓖 .A) words-rows-smaller-F.signature (words-rows-smaller-F.spec 𝓤 H (𝓖 .A) (𝓜 .mem) (𝓡 .run))) 𝓜 𝓡 code.env #words·words-rows-smaller words-rows-smaller-def.routine code.calls-words·rows·smaller (words-rows-smaller-thm.met 𝓤 H 𝓜 𝓖 𝓡))
+    (cited 𝓤 H (tripleOf 𝓤 H (𝓖 .A) groups-rows-smaller-F.signature (groups-rows-smaller-F.spec 𝓤 H (𝓖 .A) (𝓜 .mem) (𝓡 .run))) 𝓜 𝓡 code.env #groups·groups-rows-smaller groups-rows-smaller-def.routine code.calls-groups·rows·smaller (groups-rows-smaller-thm.met 𝓤 H 𝓜 𝓖 𝓡))
     (cited 𝓤 H (tripleOf 𝓤 H (𝓖 .A) dump-F.signature (dump-F.spec 𝓤 H (𝓖 .A) (𝓜 .mem) (𝓡 .run))) 𝓜 𝓡 code.env #index·dump dump-def.routine code.calls-index·dumping·dump (dump-thm.met 𝓤 H 𝓜 𝓖 𝓡))
     (cited 𝓤 H (tripleOf 𝓤 H (𝓖 .A) say-dump-F.signature (say-dump-F.spec 𝓤 H (𝓖 .A) (𝓜 .mem) (𝓡 .run))) 𝓜 𝓡 code.env #lines·say-dump say-dump-def.routine code.calls-lines·say·say-dump (say-dump-thm.met 𝓤 H 𝓜 𝓖 𝓡)))

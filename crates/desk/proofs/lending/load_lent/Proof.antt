@@ -51,10 +51,10 @@ use Rattle.walks.proofs.Lend.{ref}
 use Rattle.walks.proofs.Flow.{told, frees-all, empties}
 use Rattle.walks.proofs.Front.{refronted, front-length}
 use Rattle.walks.proofs.Calls.{contractOf, calls-front-front-front, calls-plain}
-use Rattle.groups.proofs.rows.smaller as words-rows-smaller-F
-use Rattle.groups.proofs.rows.smaller.Symbol as words-rows-smaller-def
-use Rattle.groups.proofs.rows.smaller.Symbol.{name as #words·words-rows-smaller}
-use Rattle.groups.proofs.rows.smaller.Met as words-rows-smaller-thm
+use Rattle.groups.proofs.rows.smaller as groups-rows-smaller-F
+use Rattle.groups.proofs.rows.smaller.Symbol as groups-rows-smaller-def
+use Rattle.groups.proofs.rows.smaller.Symbol.{name as #groups·groups-rows-smaller}
+use Rattle.groups.proofs.rows.smaller.Met as groups-rows-smaller-thm
 use Rattle.desk.proofs.lending.load_column as load-column-F
 use Rattle.desk.proofs.lending.load_column.Symbol as load-column-def
 use Rattle.desk.proofs.lending.load_column.Symbol.{name as #desk·load-column}
@@ -107,7 +107,7 @@ module _ {M : Type 1} (𝓤 : URA M) (H : Heap 𝓤) (A : Atoms 𝓤) (W : Given
       suffices ! _ (ends-at 𝓤 H A load-lent-F.ended stayed (load-lent-F.clauses 𝓤 H A mem run) W bound-of u r (words′, (fences′, (column′, (tt, (tt, (tt, tt)))))) (n-words′, (n-fences′, (n-column′, (tt, (tt, (tt, tt))))))) $ empties ! $
       nothing ! $ move ! (5 ∷ 0 ∷ []) $ join ! $ move ! (3 ∷ 0 ∷ []) $ join ! $ move ! (1 ∷ 0 ∷ []) $ join ! $ frame ! $ nothing ! $ nothing ! $ fjoin ! $ nothing ! $ fjoin ! $ nothing ! $ fjoin ! $ move ! (3 ∷ 0 ∷ []) $ fjoin ! $ move ! (2 ∷ 0 ∷ []) $ fjoin ! $ move ! (1 ∷ 0 ∷ []) $ fjoin ! $ frame ! $ owned ! Lent-T.the-row (Is Lent-T.the-row) (SL.makes Lent-T.the-type Lent-L.the-plain 𝓤 H A) r _ is $ done !
 
-  module _ (𝓣 : Tables 𝓤 H) (fm : FmC 𝓤 H (W .laws) (𝓣 .C)) (known-words-rows-smaller : Triple 𝓤 (𝓣 .C #words·words-rows-smaller) (contractOf 𝓤 H A words-rows-smaller-F.ended (words-rows-smaller-F.clauses 𝓤 H A mem run))) (known-load-column : Triple 𝓤 (𝓣 .C #desk·load-column) (contractOf 𝓤 H A load-column-F.ended (load-column-F.clauses 𝓤 H A mem run))) (known-say-changed : Triple 𝓤 (𝓣 .C #desk·say-changed) (contractOf 𝓤 H A say-changed-F.ended (say-changed-F.clauses 𝓤 H A mem run))) (known-after : Triple 𝓤 (𝓣 .C #desk·after) (contractOf 𝓤 H A after-F.ended (after-F.clauses 𝓤 H A mem run))) where
+  module _ (𝓣 : Tables 𝓤 H) (fm : FmC 𝓤 H (W .laws) (𝓣 .C)) (known-groups-rows-smaller : Triple 𝓤 (𝓣 .C #groups·groups-rows-smaller) (contractOf 𝓤 H A groups-rows-smaller-F.ended (groups-rows-smaller-F.clauses 𝓤 H A mem run))) (known-load-column : Triple 𝓤 (𝓣 .C #desk·load-column) (contractOf 𝓤 H A load-column-F.ended (load-column-F.clauses 𝓤 H A mem run))) (known-say-changed : Triple 𝓤 (𝓣 .C #desk·say-changed) (contractOf 𝓤 H A say-changed-F.ended (say-changed-F.clauses 𝓤 H A mem run))) (known-after : Triple 𝓤 (𝓣 .C #desk·after) (contractOf 𝓤 H A after-F.ended (after-F.clauses 𝓤 H A mem run))) where
     walk : Room u32 (length words) → Room Fence-T.the-row (length fences) → Room u8 (length column) → Is Lent-T.the-row lent (SL.vals Lent-T.the-type Lent-L.the-laws lent) → Is Order-T.the-row order (SL.vals Order-T.the-type Order-L.the-laws order) → count < 2 ^ 64 → ent 𝓤 (onEntry 𝓤 H A load-lent-F.signature (κ₀, (κ₁, (κ₂, tt))) (q₀, (q₁, (q₂, tt))) args-of vals-of) (WpFn 𝓤 H (𝓣 .C) (𝓣 .Λ) code.function (sliceVal (b₀, o₀) (length words) ∷ sliceVal (b₁, o₁) (length fences) ∷ sliceVal (b₂, o₂) (length column) ∷ SL.val Lent-T.the-type Lent-L.the-laws lent ∷ SL.val Order-T.the-type Order-L.the-laws order ∷ vint w64 count ∷ []) Post)
     walk room-words room-fences room-column is-lent is-order fit-count =
         qed W ((‵ (flft κ₀ q₀) ⊛ (‵ (flft κ₁ q₁) ⊛ (‵ (flft κ₂ q₂) ⊛ ‵ ftrue))) ∷ ‵ (owns (MutSlice (named 0) κ₀ u32 ∷ MutSlice (named 1) κ₁ Fence-T.the-row ∷ MutSlice (named 2) κ₂ u8 ∷ Lent-T.the-row ∷ Order-T.the-row ∷ usize ∷ []) args-of vals-of) ∷ []) ∵ enter ! (𝓣 .C) (𝓣 .Λ) code.function (sliceVal (b₀, o₀) (length words) ∷ sliceVal (b₁, o₁) (length fences) ∷ sliceVal (b₂, o₂) (length column) ∷ SL.val Lent-T.the-type Lent-L.the-laws lent ∷ SL.val Order-T.the-type Order-L.the-laws order ∷ vint w64 count ∷ []) _ $
@@ -116,22 +116,22 @@ module _ {M : Type 1} (𝓤 : URA M) (H : Heap 𝓤) (A : Atoms 𝓤) (W : Given
         move ! (39 ∷ []) $ fsplit ! $ move ! (1 ∷ []) $ fsplit ! $ move ! (1 ∷ []) $ fsplit ! $ move ! (1 ∷ []) $ fsplit ! $ drop ! $ fsplit ! $ drop ! $ fsplit ! $ drop ! $ drop ! $ move ! (41 ∷ []) $ split ! $ move ! (1 ∷ []) $ split ! $ move ! (1 ∷ []) $ split ! $ move ! (1 ∷ []) $ drop ! $ move ! (2 ∷ 5 ∷ 1 ∷ 4 ∷ 0 ∷ 3 ∷ []) $
         -- [words's token; words; fences's token; fences; column's token; column; _18; …; _0; …]
         assigns ! (of-opd ! (load ! (from ! (fld ! refl (stop !))) (look-in ! 40 (sub ! 1 refl (whole !))))) (from ! (stop !)) (init ! 20 refl (tt, record { fits = (room-words .0) })) $
-        -- words::rows::smaller
-        calls-plain ! fm usize (plain (λ _. usize) ∷ plain (λ _. usize) ∷ []) (yes, (yes, tt)) (words-rows-smaller-F.clauses 𝓤 H A mem run) known-words-rows-smaller
+        -- groups::rows::smaller
+        calls-plain ! fm usize (plain (λ _. usize) ∷ plain (λ _. usize) ∷ []) (yes, (yes, tt)) (groups-rows-smaller-F.clauses 𝓤 H A mem run) known-groups-rows-smaller
         (λ κs. ((lent .words), (length words, tt))) (λ κs. (vint w64 (lent .words) ∷ [], (vint w64 (length words) ∷ [], tt))) (λ κs. owns-make 𝓤 H A (usize ∷ usize ∷ []) (Ises (usize ∷ usize ∷ [])) (uint-makes 𝓤 H A W w64, (uint-makes 𝓤 H A W w64, tt)) ((lent .words), (length words, tt)) (vint w64 (lent .words) ∷ [], (vint w64 (length words) ∷ [], tt)) ((refl, (SL.owed Lent-T.the-type Lent-L.the-laws lent _ is-lent .1 .1 .0 .1)), ((refl, (room-words .0)), tt))) (λ κs. tt) (λ κs. id⊢ 𝓤 _)
         (λ r1. r1 ≡ min (lent .words) (length words)) (λ κs r1 ws. id⊢ 𝓤 _) (λ κs. (and-then ! (load ! (from ! (fld ! refl (stop !))) (look-in ! 35 (sub ! 2 refl (whole !)))) (and-then ! (load ! (from ! (stop !)) (look ! 21 refl)) (no-more !))))
         (λ u1 r1 e1 is1.
         land ! (from ! (stop !)) (init ! 28 refl (uint-lawful 𝓤 H A W w64 .typed r1 _ is1 .0)) $ rewrite ! 28 (λ (w : Val). ‵ (fat fullShare (tyInt w64) l₇ 0 w)) (ap only (uint-tells w64 r1 _ is1)) refl $
         assigns ! (of-opd ! (load ! (from ! (fld ! refl (stop !))) (look-in ! 38 (sub ! 1 refl (whole !))))) (from ! (stop !)) (store ! 20 refl (tt, record { fits = (room-fences .0) })) $
-        -- words::rows::smaller
-        calls-plain ! fm usize (plain (λ _. usize) ∷ plain (λ _. usize) ∷ []) (yes, (yes, tt)) (words-rows-smaller-F.clauses 𝓤 H A mem run) known-words-rows-smaller
+        -- groups::rows::smaller
+        calls-plain ! fm usize (plain (λ _. usize) ∷ plain (λ _. usize) ∷ []) (yes, (yes, tt)) (groups-rows-smaller-F.clauses 𝓤 H A mem run) known-groups-rows-smaller
         (λ κs. ((lent .fences), (length fences, tt))) (λ κs. (vint w64 (lent .fences) ∷ [], (vint w64 (length fences) ∷ [], tt))) (λ κs. owns-make 𝓤 H A (usize ∷ usize ∷ []) (Ises (usize ∷ usize ∷ [])) (uint-makes 𝓤 H A W w64, (uint-makes 𝓤 H A W w64, tt)) ((lent .fences), (length fences, tt)) (vint w64 (lent .fences) ∷ [], (vint w64 (length fences) ∷ [], tt)) ((refl, (SL.owed Lent-T.the-type Lent-L.the-laws lent _ is-lent .1 .1 .1 .0 .1)), ((refl, (room-fences .0)), tt))) (λ κs. tt) (λ κs. id⊢ 𝓤 _)
         (λ r2. r2 ≡ min (lent .fences) (length fences)) (λ κs r2 ws. id⊢ 𝓤 _) (λ κs. (and-then ! (load ! (from ! (fld ! refl (stop !))) (look-in ! 35 (sub ! 3 refl (whole !)))) (and-then ! (load ! (from ! (stop !)) (look ! 21 refl)) (no-more !))))
         (λ u2 r2 e2 is2.
         land ! (from ! (stop !)) (init ! 26 refl (uint-lawful 𝓤 H A W w64 .typed r2 _ is2 .0)) $ rewrite ! 26 (λ (w : Val). ‵ (fat fullShare (tyInt w64) l₈ 0 w)) (ap only (uint-tells w64 r2 _ is2)) refl $
         assigns ! (of-opd ! (load ! (from ! (fld ! refl (stop !))) (look-in ! 36 (sub ! 1 refl (whole !))))) (from ! (stop !)) (store ! 20 refl (tt, record { fits = (room-column .0) })) $
-        -- words::rows::smaller
-        calls-plain ! fm usize (plain (λ _. usize) ∷ plain (λ _. usize) ∷ []) (yes, (yes, tt)) (words-rows-smaller-F.clauses 𝓤 H A mem run) known-words-rows-smaller
+        -- groups::rows::smaller
+        calls-plain ! fm usize (plain (λ _. usize) ∷ plain (λ _. usize) ∷ []) (yes, (yes, tt)) (groups-rows-smaller-F.clauses 𝓤 H A mem run) known-groups-rows-smaller
         (λ κs. (count, (length column, tt))) (λ κs. (vint w64 count ∷ [], (vint w64 (length column) ∷ [], tt))) (λ κs. owns-make 𝓤 H A (usize ∷ usize ∷ []) (Ises (usize ∷ usize ∷ [])) (uint-makes 𝓤 H A W w64, (uint-makes 𝓤 H A W w64, tt)) (count, (length column, tt)) (vint w64 count ∷ [], (vint w64 (length column) ∷ [], tt)) ((refl, fit-count), ((refl, (room-column .0)), tt))) (λ κs. tt) (λ κs. id⊢ 𝓤 _)
         (λ r3. r3 ≡ min count (length column)) (λ κs r3 ws. id⊢ 𝓤 _) (λ κs. (and-then ! (load ! (from ! (stop !)) (look ! 31 refl)) (and-then ! (load ! (from ! (stop !)) (look ! 21 refl)) (no-more !))))
         (λ u3 r3 e3 is3.
@@ -165,15 +165,15 @@ module _ {M : Type 1} (𝓤 : URA M) (H : Heap 𝓤) (A : Atoms 𝓤) (W : Given
         by ! (exits (SL.val Lent-T.the-type Lent-L.the-laws r6) r6 (refronted r1 words words4) (refronted r2 fences fences4) (refronted r3 column column4) (front-length r1 words (length words) refl (front-1 words lent r1 e1) words4 n-words4) (front-length r2 fences (length fences) refl (front-2 fences lent r2 e2) fences4 n-fences4) (front-length r3 column (length column) refl (front-3 column count r3 e3) column4 n-column4) (told Lent-T.the-type Lent-L.the-laws r6 _ is6)))))))))))))))))))))))))))
 
 module _ {M : Type 1} (𝓤 : URA M) (H : Heap 𝓤) (A : Atoms 𝓤) (W : Given 𝓤 H A) (mem : Memory → SProp 𝓤) (run : Routine → Fun 𝓤) where
-  load-lent-walks : (𝓣 : Tables 𝓤 H) → Triple 𝓤 (𝓣 .C #words·words-rows-smaller) (contractOf 𝓤 H A words-rows-smaller-F.ended (words-rows-smaller-F.clauses 𝓤 H A mem run)) → Triple 𝓤 (𝓣 .C #desk·load-column) (contractOf 𝓤 H A load-column-F.ended (load-column-F.clauses 𝓤 H A mem run)) → Triple 𝓤 (𝓣 .C #desk·say-changed) (contractOf 𝓤 H A say-changed-F.ended (say-changed-F.clauses 𝓤 H A mem run)) → Triple 𝓤 (𝓣 .C #desk·after) (contractOf 𝓤 H A after-F.ended (after-F.clauses 𝓤 H A mem run)) → Walks 𝓤 H A load-lent-F.ended stayed (WpFn 𝓤 H (𝓣 .C) (𝓣 .Λ) code.function) (load-lent-F.clauses 𝓤 H A mem run)
-  load-lent-walks 𝓣 known-words-rows-smaller known-load-column known-say-changed known-after =
+  load-lent-walks : (𝓣 : Tables 𝓤 H) → Triple 𝓤 (𝓣 .C #groups·groups-rows-smaller) (contractOf 𝓤 H A groups-rows-smaller-F.ended (groups-rows-smaller-F.clauses 𝓤 H A mem run)) → Triple 𝓤 (𝓣 .C #desk·load-column) (contractOf 𝓤 H A load-column-F.ended (load-column-F.clauses 𝓤 H A mem run)) → Triple 𝓤 (𝓣 .C #desk·say-changed) (contractOf 𝓤 H A say-changed-F.ended (say-changed-F.clauses 𝓤 H A mem run)) → Triple 𝓤 (𝓣 .C #desk·after) (contractOf 𝓤 H A after-F.ended (after-F.clauses 𝓤 H A mem run)) → Walks 𝓤 H A load-lent-F.ended stayed (WpFn 𝓤 H (𝓣 .C) (𝓣 .Λ) code.function) (load-lent-F.clauses 𝓤 H A mem run)
+  load-lent-walks 𝓣 known-groups-rows-smaller known-load-column known-say-changed known-after =
       walked 𝓤 H A load-lent-F.ended stayed (load-lent-F.clauses 𝓤 H A mem run) (WpFn 𝓤 H (𝓣 .C) (𝓣 .Λ) code.function) (λ κs. (slice-vals, (slice-vals, (slice-vals, (SL.vals Lent-T.the-type Lent-L.the-laws, (SL.vals Order-T.the-type Order-L.the-laws, (uint-vals w64, tt))))))) (λ κs. (mut-slice-tells (named 0) (κs .0) u32, (mut-slice-tells (named 1) (κs .1 .0) Fence-T.the-row, (mut-slice-tells (named 2) (κs .1 .1 .0) u8, (SL.tells Lent-T.the-type Lent-L.the-laws, (SL.tells Order-T.the-type Order-L.the-laws, (uint-tells w64, tt)))))))
-      (λ κs qs bounds a g are. via 𝓤 _ (fst∗ 𝓤 _ (emp 𝓤)) (walk 𝓤 H A W mem run (κs .0) (κs .1 .0) (κs .1 .1 .0) (qs .0) (qs .1 .0) (qs .1 .1 .0) (a .0 .ptr .0) (a .0 .ptr .1) (a .0 .name) (a .0 .now) (a .1 .0 .ptr .0) (a .1 .0 .ptr .1) (a .1 .0 .name) (a .1 .0 .now) (a .1 .1 .0 .ptr .0) (a .1 .1 .0 .ptr .1) (a .1 .1 .0 .name) (a .1 .1 .0 .now) (a .1 .1 .1 .0) (a .1 .1 .1 .1 .0) (a .1 .1 .1 .1 .1 .0) 𝓣 (fmOf 𝓤 H (W .laws) 𝓣) known-words-rows-smaller known-load-column known-say-changed known-after (are .0 .0 .1) (are .1 .0 .0 .1) (are .1 .1 .0 .0 .1) (are .1 .1 .1 .0) (are .1 .1 .1 .1 .0) (are .1 .1 .1 .1 .1 .0 .1)))
+      (λ κs qs bounds a g are. via 𝓤 _ (fst∗ 𝓤 _ (emp 𝓤)) (walk 𝓤 H A W mem run (κs .0) (κs .1 .0) (κs .1 .1 .0) (qs .0) (qs .1 .0) (qs .1 .1 .0) (a .0 .ptr .0) (a .0 .ptr .1) (a .0 .name) (a .0 .now) (a .1 .0 .ptr .0) (a .1 .0 .ptr .1) (a .1 .0 .name) (a .1 .0 .now) (a .1 .1 .0 .ptr .0) (a .1 .1 .0 .ptr .1) (a .1 .1 .0 .name) (a .1 .1 .0 .now) (a .1 .1 .1 .0) (a .1 .1 .1 .1 .0) (a .1 .1 .1 .1 .1 .0) 𝓣 (fmOf 𝓤 H (W .laws) 𝓣) known-groups-rows-smaller known-load-column known-say-changed known-after (are .0 .0 .1) (are .1 .0 .0 .1) (are .1 .1 .0 .0 .1) (are .1 .1 .1 .0) (are .1 .1 .1 .1 .0) (are .1 .1 .1 .1 .1 .0 .1)))
 
-load-lent-meets : {M : Type 1} (𝓤 : URA M) (H : Heap 𝓤) (A : Atoms 𝓤) (W : Given 𝓤 H A) (mem : Memory → SProp 𝓤) (run : Routine → Fun 𝓤) (𝓣 : Tables 𝓤 H) → Triple 𝓤 (𝓣 .C #words·words-rows-smaller) (contractOf 𝓤 H A words-rows-smaller-F.ended (words-rows-smaller-F.clauses 𝓤 H A mem run)) → Triple 𝓤 (𝓣 .C #desk·load-column) (contractOf 𝓤 H A load-column-F.ended (load-column-F.clauses 𝓤 H A mem run)) → Triple 𝓤 (𝓣 .C #desk·say-changed) (contractOf 𝓤 H A say-changed-F.ended (say-changed-F.clauses 𝓤 H A mem run)) → Triple 𝓤 (𝓣 .C #desk·after) (contractOf 𝓤 H A after-F.ended (after-F.clauses 𝓤 H A mem run)) → Meets 𝓤 H A load-lent-F.signature (WpFn 𝓤 H (𝓣 .C) (𝓣 .Λ) code.function) (load-lent-F.spec 𝓤 H A mem run)
-load-lent-meets 𝓤 H A W mem run 𝓣 known-words-rows-smaller known-load-column known-say-changed known-after =
+load-lent-meets : {M : Type 1} (𝓤 : URA M) (H : Heap 𝓤) (A : Atoms 𝓤) (W : Given 𝓤 H A) (mem : Memory → SProp 𝓤) (run : Routine → Fun 𝓤) (𝓣 : Tables 𝓤 H) → Triple 𝓤 (𝓣 .C #groups·groups-rows-smaller) (contractOf 𝓤 H A groups-rows-smaller-F.ended (groups-rows-smaller-F.clauses 𝓤 H A mem run)) → Triple 𝓤 (𝓣 .C #desk·load-column) (contractOf 𝓤 H A load-column-F.ended (load-column-F.clauses 𝓤 H A mem run)) → Triple 𝓤 (𝓣 .C #desk·say-changed) (contractOf 𝓤 H A say-changed-F.ended (say-changed-F.clauses 𝓤 H A mem run)) → Triple 𝓤 (𝓣 .C #desk·after) (contractOf 𝓤 H A after-F.ended (after-F.clauses 𝓤 H A mem run)) → Meets 𝓤 H A load-lent-F.signature (WpFn 𝓤 H (𝓣 .C) (𝓣 .Λ) code.function) (load-lent-F.spec 𝓤 H A mem run)
+load-lent-meets 𝓤 H A W mem run 𝓣 known-groups-rows-smaller known-load-column known-say-changed known-after =
     walk-meets 𝓤 H A load-lent-F.ended stayed W (goes-slice 𝓤 H A W 3 0 tt (plain (λ _. u32)), (goes-slice 𝓤 H A W 3 1 tt (plain (λ _. Fence-T.the-row)), (goes-slice 𝓤 H A W 3 2 tt (plain (λ _. u8)), (goes-dropped 𝓤 H A W 3 (plain (λ _. Lent-T.the-row)) yes (λ κs x f. refl), (goes-dropped 𝓤 H A W 3 (plain (λ _. Order-T.the-row)) yes (λ κs x f. refl), (goes-dropped 𝓤 H A W 3 (plain (λ _. usize)) yes (λ κs x f. refl), tt))))))
-    (load-lent-F.clauses 𝓤 H A mem run) (WpFn 𝓤 H (𝓣 .C) (𝓣 .Λ) code.function) (WpFn-mono 𝓤 H (W .laws) 𝓣 code.function) (load-lent-walks 𝓤 H A W mem run 𝓣 known-words-rows-smaller known-load-column known-say-changed known-after)
+    (load-lent-F.clauses 𝓤 H A mem run) (WpFn 𝓤 H (𝓣 .C) (𝓣 .Λ) code.function) (WpFn-mono 𝓤 H (W .laws) 𝓣 code.function) (load-lent-walks 𝓤 H A W mem run 𝓣 known-groups-rows-smaller known-load-column known-say-changed known-after)
 
 pub load-lent-spec : {M : Type 1} → stated.statement M
 unfolding code.routine tablesOf
@@ -181,7 +181,7 @@ load-lent-spec 𝓤 H 𝓜 𝓖 𝓡 =
     entered 𝓤 H (tripleOf 𝓤 H (𝓖 .A) load-lent-F.signature (load-lent-F.spec 𝓤 H (𝓖 .A) (𝓜 .mem) (𝓡 .run)))
     (tables 𝓤 H 𝓜 𝓡 code.env .C) (tables 𝓤 H 𝓜 𝓡 code.env .Λ) #desk·load-lent code.function (code.unfolded 𝓤 H 𝓜 𝓡)
     (load-lent-meets 𝓤 H (𝓖 .A) (givenOf 𝓤 H 𝓜 𝓖) (𝓜 .mem) (𝓡 .run) (tablesOf 𝓤 H 𝓜 (tables 𝓤 H 𝓜 𝓡 code.env))
-    (cited 𝓤 H (tripleOf 𝓤 H (𝓖 .A) words-rows-smaller-F.signature (words-rows-smaller-F.spec 𝓤 H (𝓖 .A) (𝓜 .mem) (𝓡 .run))) 𝓜 𝓡 code.env #words·words-rows-smaller words-rows-smaller-def.routine code.calls-words·rows·smaller (words-rows-smaller-thm.met 𝓤 H 𝓜 𝓖 𝓡))
+    (cited 𝓤 H (tripleOf 𝓤 H (𝓖 .A) groups-rows-smaller-F.signature (groups-rows-smaller-F.spec 𝓤 H (𝓖 .A) (𝓜 .mem) (𝓡 .run))) 𝓜 𝓡 code.env #groups·groups-rows-smaller groups-rows-smaller-def.routine code.calls-groups·rows·smaller (groups-rows-smaller-thm.met 𝓤 H 𝓜 𝓖 𝓡))
     (cited 𝓤 H (tripleOf 𝓤 H (𝓖 .A) load-column-F.signature (load-column-F.spec 𝓤 H (𝓖 .A) (𝓜 .mem) (𝓡 .run))) 𝓜 𝓡 code.env #desk·load-column load-column-def.routine code.calls-desk·lending·load-column (load-column-thm.met 𝓤 H 𝓜 𝓖 𝓡))
     (cited 𝓤 H (tripleOf 𝓤 H (𝓖 .A) say-changed-F.signature (say-changed-F.spec 𝓤 H (𝓖 .A) (𝓜 .mem) (𝓡 .run))) 𝓜 𝓡 code.env #desk·say-changed say-changed-def.routine code.calls-desk·lending·say-changed (say-changed-thm.met 𝓤 H 𝓜 𝓖 𝓡))
     (cited 𝓤 H (tripleOf 𝓤 H (𝓖 .A) after-F.signature (after-F.spec 𝓤 H (𝓖 .A) (𝓜 .mem) (𝓡 .run))) 𝓜 𝓡 code.env #desk·after after-def.routine code.calls-desk·lent·after (after-thm.met 𝓤 H 𝓜 𝓖 𝓡)))
