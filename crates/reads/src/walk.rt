@@ -3,6 +3,7 @@ ghost use mathlib.Core.Path.{_≡_};
 ghost use Prim.Native.Nat.{ℕ, _+_, _≤_};
 ghost use Rattle.reads.specs.Walk.{walkTo};
 ghost use Rattle.reads.specs.declared.walk.Walk.the-variants.{Covered};
+use groups::rows::smaller;
 use words::word::span_of;
 
 // The word that covers the group sought, how many groups behind that one it covers too, and how many
@@ -26,12 +27,10 @@ pub fn walk_to(list: &[u32], first: u32, group: u32, budget: usize) -> Walk
     if group < first {
         return Walk::Damaged;
     }
+    let most = smaller(budget, list.len());
     let mut skip = group - first;
     let mut opened: usize = 0;
-    while opened < list.len() {
-        if opened == budget {
-            return Walk::Damaged;
-        }
+    while opened < most {
         let word = list[opened];
         opened += 1;
         let span = span_of(word);

@@ -3,7 +3,7 @@ use mathlib.Core.Path.{_≡_, refl, _∙_, sym}
 use mathlib.Core.Bool.{cond}
 use mathlib.Core.Logic.{_⊎_, inl, inr, by-cases}
 use mathlib.Core.List.{List}
-use Prim.Native.Nat.{ℕ, suc, _+_, _-_, _<_, _≤_}
+use Prim.Native.Nat.{ℕ, suc, min, _+_, _-_, _<_, _≤_}
 use native.Mathlib.Decide.{decLt}
 use native.Mathlib.Nat.{sub-zero}
 use native.Mathlib.Numerals.{add-one}
@@ -48,6 +48,9 @@ module _ (list : List ℕ) (budget i skip : ℕ) where
   spends h b =
       let none : budget - i ≡ 0 = omega arith in
       rw (none, drop-cons list i 0 h) refl
+
+  pub stops : min budget (length list) ≤ i → walkFrom list budget i skip ≡ Damaged
+  stops h = by-cases (decLt i (length list)) (λ within. spends within (omega (arith, h, within))) (λ past. ends (omega (arith, past)))
 
 -- ---- the word at place i is opened: its fill counts 0, it covers the group, or it is passed
 
