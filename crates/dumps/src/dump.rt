@@ -1,13 +1,13 @@
 // The steps of a dump: the rows that one fence serves, and the bytes that are given.
 ghost use mathlib.Core.Path.{_≡_};
 ghost use mathlib.Core.Bool.{true};
-ghost use mathlib.Core.List.{_++_};
 ghost use Prim.Native.Nat.{_<_, _≤_};
-ghost use lib.ListN.{length, drop};
+ghost use lib.ListN.{length};
 ghost use Rattle.answers.specs.Outcome.{Gives};
 ghost use Rattle.groups.specs.Rows.{rowLimit};
 ghost use Rattle.steps.specs.Plans.{Suits, blockIn};
 ghost use Rattle.dumps.specs.Dumping.{fencesFor, fenceHolds, fenceMarked, rowsGiven};
+use crate::marking::copy_rows;
 use crate::span::mark_span;
 use answers::Answer;
 use answers::Refusal;
@@ -61,18 +61,6 @@ pub fn mark_fence(
     )
 }
 
-// Writes bytes over the front of an output; what is behind them stays.
-pub fn copy_rows(rows: &[u8], out: &mut [u8])
-    requires { ⌜ length (now rows) ≤ length (now out) ⌝ }
-    ensures { λ _. ⌜ now (out .exit) ≡ now (rows .entry) ++ drop (length (now (rows .entry))) (now (out .entry)) ⌝ }
-{
-    let mut i: usize = 0;
-    while i < rows.len() {
-        out[i] = rows[i];
-        i += 1;
-    }
-}
-
 // Gives the first `issued` of the rows, if the output has room for them.
 pub fn give_rows(rows: &[u8], out: &mut [u8], issued: u32) -> Answer
     requires { ⌜ issued ≤ length (now rows) ⌝ }
@@ -82,6 +70,6 @@ pub fn give_rows(rows: &[u8], out: &mut [u8], issued: u32) -> Answer
     if out.len() < count {
         return Answer::Refused(Refusal::OutSmall);
     }
-    copy_rows(&rows[..count], out);
+    copy_rows(rows, out, 0, count);
     Answer::Done(count)
 }

@@ -69,7 +69,7 @@ fn mark_whole(rows: &mut [u8], group: u32, value: u8) -> bool
 }
 
 // Copies `count` rows to their places, from row `first` on.
-fn copy_rows(from: &[u8], to: &mut [u8], first: usize, count: usize)
+pub fn copy_rows(from: &[u8], to: &mut [u8], first: usize, count: usize)
     requires { ⌜ (first + count ≤ length (now from)) × (first + count ≤ length (now to)) ⌝ }
     ensures { λ _. ⌜ now (to .exit) ≡ paste (now (to .entry)) first (drop first (now (from .entry))) count ⌝ }
 {

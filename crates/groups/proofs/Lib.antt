@@ -7,4 +7,5 @@ pub mod RowsBack
 pub mod Sets
 pub mod Table
 pub mod Tail
+pub mod Tests
 pub mod Zeros

@@ -1,8 +1,8 @@
 -- A write of some words at a place: what stands before it, in it and behind it. Assumes nothing.
 use mathlib.Core.Path.{_≡_, refl, _∙_, ap, sym}
-use mathlib.Core.List.{List, _++_}
-use Prim.Native.Nat.{ℕ, _+_, _<_, _≤_}
-use native.Mathlib.Nat.{zero-add}
+use mathlib.Core.List.{List, [], _∷_, _++_}
+use Prim.Native.Nat.{ℕ, suc, _+_, _<_, _≤_}
+use native.Mathlib.Nat.{add-zero, zero-add}
 use native.Mathlib.Numerals.{add-one}
 use native.Mathlib.Omega.{arith}
 use lib.ListN.{length, take, drop, set, getD, length-append}
@@ -20,6 +20,13 @@ module _ (out : List ℕ) (at count : ℕ) (words : List ℕ) (long : length wor
 
   pub sets-behind : drop (at + count) (sets out at words) ≡ drop (at + count) out
   sets-behind = ap (drop (at + count)) split ∙ drop-at (take at out ++ words) (drop (at + count) out) (at + count) front-length
+
+-- some words and others behind them
+pub sets-append : (out : List ℕ) (at : ℕ) (words more : List ℕ) → sets out at (words ++ more) ≡ sets (sets out at words) (at + length words) more
+sets-append out at [] more = rw add-zero refl
+sets-append out at (word ∷ words) more =
+    sets-append (set out at word) (suc at) words more
+    ∙ ap (λ (place : ℕ). sets (sets (set out at word) (suc at) words) place more) (omega arith)
 
 -- lists that agree from a place on agree further on
 pub drop-further : {A : Type 0} (out out₀ : List A) (at count : ℕ) → drop at out ≡ drop at out₀ → drop (at + count) out ≡ drop (at + count) out₀

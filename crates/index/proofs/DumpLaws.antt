@@ -22,7 +22,8 @@ use Rattle.steps.specs.declared.entry.Plan.{Plan}
 use Rattle.steps.specs.declared.header.Header.{Header}
 use Rattle.steps.specs.declared.header.Fence.{Fence}
 use Rattle.index.proofs.DumpValues.{rowByte, rowFree, Tells, row-tells, allFree, allMarked, values-marked, values-hold}
-use Rattle.index.proofs.Every.{every-holds, holds-every, same-test}
+use Rattle.groups.proofs.Tests.{same-test}
+use Rattle.index.proofs.Every.{every-holds, holds-every}
 use Rattle.steps.proofs.Headers.{Within}
 
 -- ---- answers

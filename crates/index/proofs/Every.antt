@@ -1,6 +1,6 @@
 -- A test of every number below a given one. Assumes nothing.
-use mathlib.Core.Path.{_≡_, refl, sym}
-use mathlib.Core.Bool.{Bool, true, false, and-eq-true-iff}
+use mathlib.Core.Path.{_≡_, refl}
+use mathlib.Core.Bool.{Bool, true, and-eq-true-iff}
 use mathlib.Core.Logic.{by-cases}
 use Prim.Native.Nat.{ℕ, zero, suc, _<_}
 use native.Mathlib.Decide.{decLt}
@@ -20,9 +20,3 @@ pub holds-every : (count : ℕ) (test : ℕ → Bool) → ((number : ℕ) → nu
 holds-every zero test h = refl
 holds-every (suc count) test h =
     rw (holds-every count test (λ number less. h number (omega arith)), h count (omega arith)) refl
-
--- two tests that say the same of each other are the same
-pub same-test : (a b : Bool) → (a ≡ true → b ≡ true) → (b ≡ true → a ≡ true) → a ≡ b
-same-test true b there back = sym (there refl)
-same-test false true there back = back refl
-same-test false false there back = refl

@@ -20,7 +20,8 @@ use Rattle.audits.proofs.SoundLists.{sound-parts, sound-current}
 use Rattle.blocks.proofs.WholeLists.{length-current}
 use Rattle.steps.specs.Memory.{shapeOf, blockAt, rowsIn, every, holdersOf}
 use Rattle.steps.specs.declared.header.Header.{Header}
-use Rattle.index.proofs.Every.{every-holds, holds-every, same-test}
+use Rattle.groups.proofs.Tests.{same-test}
+use Rattle.index.proofs.Every.{every-holds, holds-every}
 
 -- ---- the rows of the first values
 

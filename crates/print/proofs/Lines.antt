@@ -22,7 +22,8 @@ use Rattle.index.proofs.Planning.{one-more}
 use Rattle.print.specs.Frame.{isFrame, rowsIn, valuesIn, thresholdIn, spacingIn, columnIn}
 use Rattle.print.specs.Text.{valueLine, refusalLine}
 use Rattle.print.specs.Printed.{unlessRefused, answerLine, queryLine, valueLines, columnLines, frameLines}
-use Rattle.print.proofs.Stores.{sets-append, length-value, length-refusal}
+use Rattle.groups.proofs.Sets.{sets-append}
+use Rattle.print.proofs.Stores.{length-value, length-refusal}
 
 -- a number above 0 refuses
 pub refused : (number : ℕ) (lines : List ℕ) → 0 < number → unlessRefused number lines ≡ refusalLine number

@@ -2,19 +2,13 @@
 use mathlib.Core.Path.{_≡_, refl, _∙_, ap, sym}
 use mathlib.Core.List.{List, [], _∷_, _++_}
 use Prim.Native.Nat.{ℕ, zero, suc, _+_, _-_, _*_, _/_, _%_, _^_, _<_, _≤_}
-use native.Mathlib.Nat.{add-zero, zero-add}
+use native.Mathlib.Nat.{zero-add}
 use native.Mathlib.Numerals.{add-one}
 use native.Mathlib.Omega.{arith}
 use lib.ListN.{length, getD, set, drop, length-append}
 use lib.Seq.{sets, sets-eq, drop-cons}
+use Rattle.groups.proofs.Sets.{sets-append}
 use Rattle.print.specs.Text.{hexDigit, hexDigits, hexWords, newline, valueLine, refusalLine}
-
--- a text and another behind it
-pub sets-append : (out : List ℕ) (at : ℕ) (text more : List ℕ) → sets out at (text ++ more) ≡ sets (sets out at text) (at + length text) more
-sets-append out at [] more = rw add-zero refl
-sets-append out at (byte ∷ text) more =
-    sets-append (set out at byte) (suc at) text more
-    ∙ ap (λ (place : ℕ). sets (sets (set out at byte) (suc at) text) place more) (omega arith)
 
 -- a text over the front
 pub sets-over : (out text : List ℕ) → length text ≤ length out → sets out 0 text ≡ text ++ drop (length text) out

@@ -11,6 +11,7 @@ use lib.ListN.{length, getD, take, drop, replicate, length-drop, getD-replicate}
 use lib.Seq.{getD-take, getD-drop, length-take-le}
 use borrow.Author.Tests.{eqb-true, eq-eqb}
 use Rattle.groups.specs.Rows.{groupOf}
+use Rattle.groups.proofs.Tests.{same-test}
 use Rattle.words.specs.Words.{allOnes}
 use Rattle.listings.specs.Column.{rowsWith}
 use Rattle.listings.specs.Listing.{allAlike}
@@ -23,12 +24,6 @@ alike-each byte rows e i h = ap (λ (same : List ℕ). getD same i 0) (alike-rep
 each-alike : (byte : ℕ) (rows : List ℕ) → ((i : ℕ) → i < length rows → getD rows i 0 ≡ byte) → allAlike byte rows ≡ true
 each-alike byte [] each = refl
 each-alike byte (row ∷ rows) each = rw (eq-eqb row byte (each 0 (omega arith))) (each-alike byte rows (λ i h. each (suc i) (omega arith)))
-
--- two tests that hold in the same cases
-same-test : (one other : Bool) → (one ≡ true → other ≡ true) → (other ≡ true → one ≡ true) → one ≡ other
-same-test true other there back = sym (there refl)
-same-test false true there back = back refl
-same-test false false there back = refl
 
 -- a window of sixteen rows
 module _ (rows : List ℕ) (at : ℕ) (inside : at + 16 ≤ length rows) where

@@ -2,10 +2,11 @@
 use mathlib.Core.Path.{_≡_, refl, _∙_, ap, sym}
 use mathlib.Core.List.{List, [], _∷_, _++_, append-assoc, append-nil}
 use Prim.Native.Nat.{ℕ, suc, _+_, _-_, _<_, _≤_}
-use native.Mathlib.Nat.{add-zero, zero-add}
+use native.Mathlib.Nat.{zero-add}
 use native.Mathlib.Omega.{arith}
 use lib.ListN.{length, getD, set, take, drop, replicate, length-append, length-replicate, length-map, take-append-drop}
 use lib.Seq.{sets, sets-eq, length-sets, getD-set-other, drop-cons, take-add}
+use Rattle.groups.proofs.Sets.{sets-append}
 use Rattle.words.specs.Words.{Run, uniform, runsOf, encode}
 use Rattle.words.specs.Writer.{after, written, lastWords, Takes}
 use Rattle.words.specs.declared.writer.Pending.{Pending}
@@ -19,13 +20,6 @@ use Rattle.listings.specs.Listing.{zerosPending, Fits, Follows}
 use Rattle.listings.specs.declared.listing.Listed.{Listed}
 
 -- ---- writes
-
--- some words and others behind them
-sets-append : (out : List ℕ) (at : ℕ) (words more : List ℕ) → sets out at (words ++ more) ≡ sets (sets out at words) (at + length words) more
-sets-append out at [] more = rw add-zero refl
-sets-append out at (word ∷ words) more =
-    sets-append (set out at word) (suc at) words more
-    ∙ ap (λ (place : ℕ). sets (sets (set out at word) (suc at) words) place more) (omega arith)
 
 -- what stands behind them is as it was
 getD-behind : (out : List ℕ) (at : ℕ) (words : List ℕ) (place : ℕ) → at + length words ≤ place → getD (sets out at words) place 0 ≡ getD out place 0

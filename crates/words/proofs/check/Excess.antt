@@ -1,20 +1,18 @@
 -- What a word covers beyond one group, as its tests pick it: exact where the word keeps the form, and too many where it does not. Assumes nothing.
-use mathlib.Core.Path.{_≡_, refl, _∙_, sym}
+use mathlib.Core.Path.{_≡_, refl}
 use mathlib.Core.Bool.{Bool, true, false, not, cond, _&&_}
 use Prim.Native.Nat.{ℕ, _+_, _/_, _%_, _<_, _≤_}
 use native.Mathlib.Omega.{arith}
 use lib.Dec.{leb, ltb, eqb}
-use borrow.Author.Tests.{eqb-true, eqb-false, eq-eqb, ne-eqb, lt-ltb, ltb-true, ltb-false, le-leb, lt-leb}
+use borrow.Author.Tests.{eqb-true, eq-eqb, ne-eqb, lt-ltb, ltb-true, ltb-false, le-leb, lt-leb}
+use Rattle.groups.proofs.Tests.{same-test}
 use Rattle.words.specs.Words.{allOnes, runOf, span, keepsForm, bitAfter}
 use Rattle.words.proofs.word.Reading.{reads-literal, reads-fill}
 
--- two tests with one answer
-same-test : (a b c d : ℕ) → (a ≡ b → c ≡ d) → (c ≡ d → a ≡ b) → eqb a b ≡ eqb c d
-same-test a b c d there back = go (eqb a b) refl
-  where
-    go : (t : Bool) → eqb a b ≡ t → eqb a b ≡ eqb c d
-    go true e = e ∙ sym (eq-eqb c d (there (eqb-true a b e)))
-    go false e = e ∙ sym (ne-eqb c d (λ q. eqb-false a b e (back q)))
+-- two tests of numbers with one answer
+same-numbers : (a b c d : ℕ) → (a ≡ b → c ≡ d) → (c ≡ d → a ≡ b) → eqb a b ≡ eqb c d
+same-numbers a b c d there back =
+    same-test (eqb a b) (eqb c d) (λ e. eq-eqb c d (there (eqb-true a b e))) (λ e. eq-eqb a b (back (eqb-true c d e)))
 
 -- the two highest bits of a fill are those of the word before it exactly where that is a fill of the same bit
 like-fill : (before word : ℕ) → before < 0x100000000 → word < 0x100000000 → 0x80000000 ≤ word
@@ -25,11 +23,11 @@ like-fill before word b w h = go (ltb before 0x80000000) refl
         → eqb (before / 0x40000000) (word / 0x40000000) ≡ eqb (bitAfter (runOf before)) (word / 0x40000000 % 2)
     go true e =
         let low = ltb-true before 0x80000000 e in
-        rw (reads-literal before low) (same-test (before / 0x40000000) (word / 0x40000000) 2 (word / 0x40000000 % 2) (λ q. omega arith) (λ q. omega arith))
+        rw (reads-literal before low) (same-numbers (before / 0x40000000) (word / 0x40000000) 2 (word / 0x40000000 % 2) (λ q. omega arith) (λ q. omega arith))
     go false e =
         let high = ltb-false before 0x80000000 e in
         rw (reads-fill before high)
-        (same-test (before / 0x40000000) (word / 0x40000000) (before / 0x40000000 % 2) (word / 0x40000000 % 2) (λ q. omega arith) (λ q. omega arith))
+        (same-numbers (before / 0x40000000) (word / 0x40000000) (before / 0x40000000 % 2) (word / 0x40000000 % 2) (λ q. omega arith) (λ q. omega arith))
 
 -- what a number says of a word: it is the excess where the word keeps the form, and too many where it does not
 abbrev pub Tells : Bool → ℕ → ℕ → Type 0

@@ -1,6 +1,4 @@
 -- `give_rows` gives the first rows where the output has room for them. Assumes nothing.
-use mathlib.Core.Path.{sym}
-use lib.Seq.{length-take-le}
 use native.Mathlib.Omega.{arith}
 use borrow.Author.Needs.{needs}
 use Rattle.dumps.proofs.dump.Giving.{no-room, given}
@@ -10,25 +8,18 @@ use Rattle.dumps.proofs.dump.give_rows.Tie as tie
 returns : tie.Need-returns
 returns c = let a = c .before .before .before .args in no-room (a .issued) (a .rows .now) (a .out .now) (c .if1 .taken)
 
-slice-aggregate-copy-rows : tie.Need-slice-aggregate-copy-rows
-slice-aggregate-copy-rows c =
-    let start = c .before .before .before .before in
-    sym (length-take-le (start .args .issued) (start .args .rows .now) (start .pre))
-
 copy-rows-requires : tie.Need-copy-rows-requires
-copy-rows-requires c κs =
-    let start = c .before .before .before .before .before in
-    omega (arith, length-take-le (start .args .issued) (start .args .rows .now) (start .pre), c .before .before .if1 .left)
+copy-rows-requires c κs = (omega arith, omega arith)
 
 same-length : tie.Need-same-length
 same-length c = search needs
 
 returns-2 : tie.Need-returns-2
 returns-2 c =
-    let start = c .before .before .before .before .before .before .before .before in
+    let start = c .before .before .before .before .before .before in
     let a = start .args in
-    given (a .issued) (a .rows .now) (a .out .now) (start .pre) (c .before .before .before .before .before .if1 .left)
+    given (a .issued) (a .rows .now) (a .out .now) (start .pre) (c .before .before .before .if1 .left)
     (c .before .before .copy-rows .last .1 .0) (c .before .before .copy-rows .ensures)
 
 pub give-rows-spec : {M : Type 1} → statement M
-give-rows-spec = tie.close (tie.spec returns slice-aggregate-copy-rows copy-rows-requires same-length returns-2)
+give-rows-spec = tie.close (tie.spec returns copy-rows-requires same-length returns-2)
