@@ -9,7 +9,7 @@ use Rattle.words.specs.Words.{decode}
 use Rattle.blocks.specs.Shape.{Limits}
 use Rattle.blocks.specs.Block.{valueLength, updateLength, valueWords, updateWords, valueList, updateList, current}
 use Rattle.blocks.specs.Whole.{wholeLists}
-use Rattle.audits.specs.Audit.{clearLists, unusedZero, soundLists}
+use Rattle.blocks.specs.Audit.{clearLists, unusedZero, soundLists}
 use Rattle.blocks.specs.declared.shape.Shape.{Shape}
 use Rattle.blocks.proofs.WholeLists.{clear-current}
 

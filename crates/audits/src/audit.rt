@@ -9,7 +9,7 @@ ghost use Rattle.groups.specs.Rows.{Groups};
 ghost use Rattle.lists.specs.Combine.{either, combined, apart};
 ghost use Rattle.blocks.specs.Block.{part, current};
 ghost use Rattle.blocks.specs.Whole.{wholeLists};
-ghost use Rattle.audits.specs.Audit.{clearLists, unusedZero, soundLists, turnedLists};
+ghost use Rattle.blocks.specs.Audit.{clearLists, unusedZero, soundLists, turnedLists};
 use blocks::shape::Shape;
 use blocks::shape::update_room;
 use blocks::whole::Lists;

@@ -1,6 +1,7 @@
-// One value's part of an audit, on its block: whether its lists are sound, and whether its rows are in no
+// What Audit looks at in one value: whether the lists of its block are sound, and whether its rows are in no
 // other value.
 //
-// Below stands `blocks`, which knows where a block has its lists; above it `steps`, which has the header
-// and soundness of a whole index.
+// Below stand `blocks`, which knows where a block has its lists, and `steps`, which has the sizes of an
+// index; above it `index`, which has the fence records and goes from value to value.
 pub mod audit;
+pub mod value;

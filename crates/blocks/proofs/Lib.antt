@@ -1,4 +1,5 @@
 pub mod Blocks
+pub mod EmptyUpdates
 pub mod FenceLaws
 pub mod Parts
 pub mod Reaching

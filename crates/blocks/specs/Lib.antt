@@ -3,3 +3,4 @@ pub mod Block
 pub mod Read
 pub mod Whole
 pub mod Fences
+pub mod Audit

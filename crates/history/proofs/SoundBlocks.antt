@@ -15,7 +15,7 @@ use Rattle.blocks.specs.Block.{updateList, current, padded, zeroList}
 use Rattle.values.specs.Change.{merged, turned, mergeDue, flipped}
 use Rattle.blocks.specs.Whole.{wholeLists}
 use Rattle.blocks.specs.declared.shape.Shape.{Shape}
-use Rattle.values.proofs.EmptyUpdates.{emptied, value-emptied, update-emptied, ones-emptied}
+use Rattle.blocks.proofs.EmptyUpdates.{emptied, value-emptied, update-emptied, ones-emptied}
 use Rattle.values.proofs.Flipping.{kept-ready, merged-ready}
 use Rattle.values.proofs.Turning.{Spare, turnedList-fits, value-turned, update-turned, decode-turned, whole-turned}
 use Rattle.blocks.proofs.WholeLists.{whole-parts, parts-whole, rowAt-current, current-fits, decode-current, canonical-current}

@@ -17,7 +17,7 @@ use Rattle.blocks.specs.Block.{valueLength, updateLength, valueWords, updateWor
 use Rattle.blocks.specs.Fences.{fenceAt}
 use Rattle.blocks.specs.declared.shape.Shape.{Shape}
 use Rattle.blocks.proofs.Parts.{length-part}
-use Rattle.audits.specs.Audit.{soundLists}
+use Rattle.blocks.specs.Audit.{soundLists}
 use Rattle.audits.proofs.SoundLists.{sound-parts, parts-sound}
 use Rattle.blocks.proofs.WholeLists.{whole-parts}
 use Rattle.steps.specs.Memory.{Memory, shapeOf, lent, blockAt, fencesAt, soundValue}

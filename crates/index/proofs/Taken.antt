@@ -15,7 +15,7 @@ use Rattle.lists.proofs.Apart.{apart-rows, rows-apart}
 use Rattle.lists.proofs.Combining.{length-combined, rowAt-combined-any}
 use Rattle.lists.proofs.Operations.{either-bits}
 use Rattle.blocks.specs.Shape.{Limits}
-use Rattle.audits.specs.Audit.{soundLists}
+use Rattle.blocks.specs.Audit.{soundLists}
 use Rattle.audits.proofs.SoundLists.{sound-parts, sound-current}
 use Rattle.blocks.proofs.WholeLists.{length-current}
 use Rattle.steps.specs.Memory.{shapeOf, blockAt, rowsIn, every, holdersOf}

@@ -20,7 +20,7 @@ use Rattle.blocks.specs.Whole.{updateOnes, wholeLists}
 use Rattle.listings.specs.Column.{rowsWith, groupsWith, listFor, loaded, packedList, packedBlock}
 use Rattle.blocks.specs.declared.shape.Shape.{Shape}
 use Rattle.blocks.proofs.Blocks.{ValueIs, UpdateIs}
-use Rattle.values.proofs.EmptyUpdates.{length-emptied, value-emptied, update-emptied, ones-emptied, current-emptied, whole-emptied}
+use Rattle.blocks.proofs.EmptyUpdates.{length-emptied, value-emptied, update-emptied, ones-emptied, current-emptied, whole-emptied}
 use Rattle.blocks.proofs.Parts.{part-slice, take-part, part-part}
 use Rattle.blocks.proofs.Rooms.{length-padded}
 use Rattle.listings.proofs.listing.Loop.{list-fits}

@@ -7,7 +7,7 @@ use lib.ListN.{length}
 use Rattle.groups.specs.Rows.{rowLimit, rowAt}
 use Rattle.blocks.specs.Shape.{shapeFor, blockSize, fenceCount}
 use Rattle.blocks.specs.Block.{part, valueList, current}
-use Rattle.audits.specs.Audit.{soundLists}
+use Rattle.blocks.specs.Audit.{soundLists}
 use Rattle.blocks.specs.declared.shape.Shape.{Shape}
 use Rattle.steps.specs.Fences.{rightFences}
 use Rattle.steps.specs.declared.header.Header.{Header}

@@ -1,5 +1,4 @@
 pub mod Altering
-pub mod EmptyUpdates
 pub mod Flipping
 pub mod Merging
 pub mod Turning

@@ -11,7 +11,7 @@ use Rattle.blocks.specs.Whole.{updateOnes, wholeLists}
 use Rattle.values.specs.Change.{merged}
 use Rattle.blocks.specs.declared.shape.Shape.{Shape}
 use Rattle.blocks.proofs.Blocks.{ValueIs, UpdateIs}
-use Rattle.values.proofs.EmptyUpdates.{length-emptied, value-emptied, update-emptied, ones-emptied, current-emptied, whole-emptied}
+use Rattle.blocks.proofs.EmptyUpdates.{length-emptied, value-emptied, update-emptied, ones-emptied, current-emptied, whole-emptied}
 use Rattle.blocks.proofs.WholeLists.{current-fits, decode-current, canonical-current}
 
 module _ (shape : Shape) (limits : Limits shape) (block : List ℕ) (whole : wholeLists shape block ≡ true) where

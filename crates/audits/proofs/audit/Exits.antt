@@ -11,7 +11,7 @@ use Rattle.lists.specs.Combine.{Covers}
 use Rattle.blocks.specs.Shape.{Limits, updateRoom, blockSize}
 use Rattle.blocks.specs.Block.{part, valueList, updateList}
 use Rattle.blocks.specs.Whole.{wholeLists, wholeOf}
-use Rattle.audits.specs.Audit.{clearLists, unusedZero, soundLists}
+use Rattle.blocks.specs.Audit.{clearLists, unusedZero, soundLists}
 use Rattle.blocks.specs.declared.shape.Shape.{Shape}
 use Rattle.blocks.specs.declared.whole.Lists.the-variants.{Intact, Faulty}
 use Rattle.blocks.proofs.Parts.{value-unused, update-unused}

@@ -17,7 +17,7 @@ use Rattle.lists.proofs.Operations.{exclusive-bits}
 use Rattle.blocks.specs.Shape.{Limits}
 use Rattle.blocks.specs.Block.{valueList, updateList, current}
 use Rattle.blocks.specs.Whole.{wholeLists}
-use Rattle.audits.specs.Audit.{turnedLists}
+use Rattle.blocks.specs.Audit.{turnedLists}
 use Rattle.blocks.specs.declared.shape.Shape.{Shape}
 use Rattle.blocks.proofs.Rooms.{take-zeros}
 use Rattle.blocks.proofs.WholeLists.{value-covers, update-covers}

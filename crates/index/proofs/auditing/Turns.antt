@@ -11,7 +11,7 @@ use lib.ListN.{length, take, drop, replicate}
 use Rattle.groups.specs.Rows.{Groups}
 use Rattle.lists.specs.Combine.{either, combined, apart}
 use Rattle.blocks.specs.Shape.{fenceCount}
-use Rattle.audits.specs.Audit.{soundLists}
+use Rattle.blocks.specs.Audit.{soundLists}
 use Rattle.blocks.specs.Block.{part, valueLength, current}
 use Rattle.blocks.proofs.Sizes.{few-groups}
 use Rattle.audits.proofs.SoundLists.{sound-parts}

@@ -40,7 +40,7 @@ use denote.Triple.Table.{entered, cited}
 use denote.Triple.Walked.{says, needs, Stays, stay-slice, stay-dropped, walkOf, Walks, ends-at, walked, goes-slice, goes-dropped, walk-meets}
 use Rattle.groups.specs.Rows.{Groups}
 use Rattle.lists.specs.Combine.{either, combined, apart}
-use Rattle.audits.specs.Audit.{soundLists}
+use Rattle.blocks.specs.Audit.{soundLists}
 use Rattle.blocks.specs.Block.{part, current, valueLength}
 use Rattle.blocks.specs.Shape.{fenceCount}
 use Rattle.steps.specs.Plans.{Fenced, blockIn, listIn, Suits}
@@ -54,10 +54,10 @@ use Rattle.steps.proofs.entry.Plan.Laws as Plan-L
 use Rattle.walks.proofs.Lend.{ref}
 use Rattle.walks.proofs.Flow.{tests, frees-all}
 use Rattle.walks.proofs.Calls.{contractOf, calls-shr-mut, calls-shr-shr}
-use Rattle.steps.proofs.audit.audit_lists as audit-lists-F
-use Rattle.steps.proofs.audit.audit_lists.Symbol as audit-lists-def
-use Rattle.steps.proofs.audit.audit_lists.Symbol.{name as #steps·audit-lists}
-use Rattle.steps.proofs.audit.audit_lists.Met as audit-lists-thm
+use Rattle.audits.proofs.value.audit_lists as audit-lists-F
+use Rattle.audits.proofs.value.audit_lists.Symbol as audit-lists-def
+use Rattle.audits.proofs.value.audit_lists.Symbol.{name as #steps·audit-lists}
+use Rattle.audits.proofs.value.audit_lists.Met as audit-lists-thm
 use Rattle.index.proofs.fences.fences_right as fences-right-F
 use Rattle.index.proofs.fences.fences_right.Symbol as fences-right-def
 use Rattle.index.proofs.fences.fences_right.Symbol.{name as #index·fences-right}

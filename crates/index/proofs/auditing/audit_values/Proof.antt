@@ -42,7 +42,7 @@ use denote.Triple.Table.{entered, cited}
 use denote.Triple.Walked.{says, needs, Stays, stay-slice, stay-dropped, walkOf, Walks, ends-at, walked, goes-slice, goes-dropped, walk-meets}
 use Rattle.groups.specs.Rows.{Groups}
 use Rattle.lists.specs.Combine.{either, combined, apart}
-use Rattle.audits.specs.Audit.{soundLists}
+use Rattle.blocks.specs.Audit.{soundLists}
 use Rattle.blocks.specs.Block.{part, current}
 use Rattle.blocks.specs.Shape.{fenceCount}
 use Rattle.steps.specs.Plans.{Fenced, blockIn, listIn}

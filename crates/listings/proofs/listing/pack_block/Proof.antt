@@ -11,7 +11,7 @@ use Rattle.blocks.specs.Shape.{blockSize}
 use Rattle.blocks.specs.Block.{part, padded}
 use Rattle.listings.specs.Column.{packedList, packedBlock}
 use Rattle.listings.proofs.Columns.{length-packedList, packed-slice}
-use Rattle.values.proofs.EmptyUpdates.{emptied-written}
+use Rattle.blocks.proofs.EmptyUpdates.{emptied-written}
 use Rattle.listings.proofs.listing.pack_block.Statement.{statement}
 use Rattle.listings.proofs.listing.pack_block.Tie as tie
 

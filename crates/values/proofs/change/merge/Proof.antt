@@ -5,7 +5,7 @@ use Rattle.words.specs.Words.{encode}
 use Rattle.blocks.specs.Shape.{blockSize}
 use Rattle.blocks.specs.Block.{part, current}
 use Rattle.values.specs.Change.{merged}
-use Rattle.values.proofs.EmptyUpdates.{emptied-written}
+use Rattle.blocks.proofs.EmptyUpdates.{emptied-written}
 use Rattle.blocks.proofs.WholeLists.{current-fits}
 use Rattle.values.proofs.change.merge.Statement.{statement}
 use Rattle.values.proofs.change.merge.Tie as tie

@@ -5,14 +5,14 @@ use Prim.Native.Nat.{ℕ, _*_}
 use native.Mathlib.Omega.{arith}
 use borrow.Author.Needs.{needs}
 use borrow.Author.Tests.{not-true, not-false}
-use Rattle.audits.specs.Audit.{soundLists}
+use Rattle.blocks.specs.Audit.{soundLists}
 use Rattle.blocks.specs.Block.{part}
 use Rattle.blocks.specs.Shape.{blockSize}
 use Rattle.audits.proofs.SoundLists.{sound-parts}
 use Rattle.steps.specs.Plans.{blockIn}
 use Rattle.steps.proofs.Plans.{inside}
-use Rattle.steps.proofs.audit.audit_lists.Statement.{statement}
-use Rattle.steps.proofs.audit.audit_lists.Tie as tie
+use Rattle.audits.proofs.value.audit_lists.Statement.{statement}
+use Rattle.audits.proofs.value.audit_lists.Tie as tie
 
 same-block : (c : tie.Start)
     → let a = c .args in

@@ -6,12 +6,12 @@ ghost use Prim.Native.Nat.{_≤_};
 ghost use lib.ListN.{length, take, drop};
 ghost use Rattle.groups.specs.Rows.{Groups};
 ghost use Rattle.lists.specs.Combine.{either, combined, apart};
-ghost use Rattle.audits.specs.Audit.{soundLists};
+ghost use Rattle.blocks.specs.Audit.{soundLists};
 ghost use Rattle.blocks.specs.Block.{current};
 ghost use Rattle.steps.specs.Plans.{Suits, blockIn};
-use crate::entry::Plan;
-use audits::audit::sound_lists;
-use audits::audit::take_value;
+use crate::audit::sound_lists;
+use crate::audit::take_value;
+use steps::entry::Plan;
 
 // Whether the lists of a value are sound and none of its rows is taken yet; they are then taken. `taken` has
 // the rows of the values before it. Where it answers false, `taken` is good for nothing.
