@@ -56,7 +56,7 @@ use Rattle.walks.proofs.Flow.{tests, frees-all}
 use Rattle.walks.proofs.Calls.{contractOf, calls-shr-mut, calls-shr-shr}
 use Rattle.audits.proofs.value.audit_lists as audit-lists-F
 use Rattle.audits.proofs.value.audit_lists.Symbol as audit-lists-def
-use Rattle.audits.proofs.value.audit_lists.Symbol.{name as #steps·audit-lists}
+use Rattle.audits.proofs.value.audit_lists.Symbol.{name as #audits·audit-lists}
 use Rattle.audits.proofs.value.audit_lists.Met as audit-lists-thm
 use Rattle.index.proofs.fences.fences_right as fences-right-F
 use Rattle.index.proofs.fences.fences_right.Symbol as fences-right-def
@@ -105,7 +105,7 @@ module _ {M : Type 1} (𝓤 : URA M) (H : Heap 𝓤) (A : Atoms 𝓤) (W : Given
       suffices ! _ (ends-at 𝓤 H A audit-value-F.ended stayed (audit-value-F.clauses 𝓤 H A mem run) W bound-of u r (tt, (tt, (taken′, (tt, (tt, (tt, tt)))))) (tt, (tt, (n-taken′, (tt, (tt, (tt, tt))))))) $ says ! e $
       nothing ! $ move ! (3 ∷ 0 ∷ []) $ join ! $ move ! (2 ∷ 0 ∷ []) $ join ! $ move ! (1 ∷ 0 ∷ []) $ join ! $ frame ! $ nothing ! $ nothing ! $ fjoin ! $ nothing ! $ fjoin ! $ nothing ! $ fjoin ! $ move ! (1 ∷ 0 ∷ []) $ fjoin ! $ nothing ! $ fjoin ! $ nothing ! $ fjoin ! $ frame ! $ owned ! Boolean (Is Boolean) (bool-makes 𝓤 H A W) r _ is $ done !
 
-  module _ (𝓣 : Tables 𝓤 H) (fm : FmC 𝓤 H (W .laws) (𝓣 .C)) (known-audit-lists : Triple 𝓤 (𝓣 .C #steps·audit-lists) (contractOf 𝓤 H A audit-lists-F.ended (audit-lists-F.clauses 𝓤 H A mem run))) (known-fences-right : Triple 𝓤 (𝓣 .C #index·fences-right) (contractOf 𝓤 H A fences-right-F.ended (fences-right-F.clauses 𝓤 H A mem run))) where
+  module _ (𝓣 : Tables 𝓤 H) (fm : FmC 𝓤 H (W .laws) (𝓣 .C)) (known-audit-lists : Triple 𝓤 (𝓣 .C #audits·audit-lists) (contractOf 𝓤 H A audit-lists-F.ended (audit-lists-F.clauses 𝓤 H A mem run))) (known-fences-right : Triple 𝓤 (𝓣 .C #index·fences-right) (contractOf 𝓤 H A fences-right-F.ended (fences-right-F.clauses 𝓤 H A mem run))) where
     walk : Room u32 (length words) → Room Fence-T.the-row (length fences) → Room u32 (length taken) → Is Plan-T.the-row plan (SL.vals Plan-T.the-type Plan-L.the-laws plan) → issued < 2 ^ 32 → value < 2 ^ 32 → Fenced plan (length words) (length fences) value × (issued ≤ plan .shape .rows) × Groups taken × (plan .shape .groups ≤ length taken) → ent 𝓤 (onEntry 𝓤 H A audit-value-F.signature (κ₀, (κ₁, (κ₂, tt))) (q₀, (q₁, (q₂, tt))) args-of vals-of) (WpFn 𝓤 H (𝓣 .C) (𝓣 .Λ) code.function (sliceVal (b₀, o₀) (length words) ∷ sliceVal (b₁, o₁) (length fences) ∷ sliceVal (b₂, o₂) (length taken) ∷ SL.val Plan-T.the-type Plan-L.the-laws plan ∷ vint w32 issued ∷ vint w32 value ∷ []) Post)
     walk room-words room-fences room-taken is-plan fit-issued fit-value req =
         qed W ((‵ (flft κ₀ q₀) ⊛ (‵ (flft κ₁ q₁) ⊛ (‵ (flft κ₂ q₂) ⊛ ‵ ftrue))) ∷ ‵ (owns (ShrSlice (named 0) κ₀ u32 ∷ ShrSlice (named 1) κ₁ Fence-T.the-row ∷ MutSlice (named 2) κ₂ u32 ∷ Plan-T.the-row ∷ u32 ∷ u32 ∷ []) args-of vals-of) ∷ []) ∵ enter ! (𝓣 .C) (𝓣 .Λ) code.function (sliceVal (b₀, o₀) (length words) ∷ sliceVal (b₁, o₁) (length fences) ∷ sliceVal (b₂, o₂) (length taken) ∷ SL.val Plan-T.the-type Plan-L.the-laws plan ∷ vint w32 issued ∷ vint w32 value ∷ []) _ $
@@ -145,12 +145,12 @@ module _ {M : Type 1} (𝓤 : URA M) (H : Heap 𝓤) (A : Atoms 𝓤) (W : Given
         by ! (exits (vbool r2) r2 taken1 n-taken1 (exit-2 words fences taken plan issued value req r1 taken1 e1 h1 r2 e2) refl))))))))))))))))
 
 module _ {M : Type 1} (𝓤 : URA M) (H : Heap 𝓤) (A : Atoms 𝓤) (W : Given 𝓤 H A) (mem : Memory → SProp 𝓤) (run : Routine → Fun 𝓤) where
-  audit-value-walks : (𝓣 : Tables 𝓤 H) → Triple 𝓤 (𝓣 .C #steps·audit-lists) (contractOf 𝓤 H A audit-lists-F.ended (audit-lists-F.clauses 𝓤 H A mem run)) → Triple 𝓤 (𝓣 .C #index·fences-right) (contractOf 𝓤 H A fences-right-F.ended (fences-right-F.clauses 𝓤 H A mem run)) → Walks 𝓤 H A audit-value-F.ended stayed (WpFn 𝓤 H (𝓣 .C) (𝓣 .Λ) code.function) (audit-value-F.clauses 𝓤 H A mem run)
+  audit-value-walks : (𝓣 : Tables 𝓤 H) → Triple 𝓤 (𝓣 .C #audits·audit-lists) (contractOf 𝓤 H A audit-lists-F.ended (audit-lists-F.clauses 𝓤 H A mem run)) → Triple 𝓤 (𝓣 .C #index·fences-right) (contractOf 𝓤 H A fences-right-F.ended (fences-right-F.clauses 𝓤 H A mem run)) → Walks 𝓤 H A audit-value-F.ended stayed (WpFn 𝓤 H (𝓣 .C) (𝓣 .Λ) code.function) (audit-value-F.clauses 𝓤 H A mem run)
   audit-value-walks 𝓣 known-audit-lists known-fences-right =
       walked 𝓤 H A audit-value-F.ended stayed (audit-value-F.clauses 𝓤 H A mem run) (WpFn 𝓤 H (𝓣 .C) (𝓣 .Λ) code.function) (λ κs. (slice-vals, (slice-vals, (slice-vals, (SL.vals Plan-T.the-type Plan-L.the-laws, (uint-vals w32, (uint-vals w32, tt))))))) (λ κs. (shr-slice-tells (named 0) (κs .0) u32, (shr-slice-tells (named 1) (κs .1 .0) Fence-T.the-row, (mut-slice-tells (named 2) (κs .1 .1 .0) u32, (SL.tells Plan-T.the-type Plan-L.the-laws, (uint-tells w32, (uint-tells w32, tt)))))))
       (λ κs qs bounds a g are. needs 𝓤 _ _ (walk 𝓤 H A W mem run (κs .0) (κs .1 .0) (κs .1 .1 .0) (qs .0) (qs .1 .0) (qs .1 .1 .0) (a .0 .ptr .0) (a .0 .ptr .1) (a .0 .name) (a .0 .now) (a .1 .0 .ptr .0) (a .1 .0 .ptr .1) (a .1 .0 .name) (a .1 .0 .now) (a .1 .1 .0 .ptr .0) (a .1 .1 .0 .ptr .1) (a .1 .1 .0 .name) (a .1 .1 .0 .now) (a .1 .1 .1 .0) (a .1 .1 .1 .1 .0) (a .1 .1 .1 .1 .1 .0) 𝓣 (fmOf 𝓤 H (W .laws) 𝓣) known-audit-lists known-fences-right (are .0 .0 .1) (are .1 .0 .0 .1) (are .1 .1 .0 .0 .1) (are .1 .1 .1 .0) (are .1 .1 .1 .1 .0 .1) (are .1 .1 .1 .1 .1 .0 .1)))
 
-audit-value-meets : {M : Type 1} (𝓤 : URA M) (H : Heap 𝓤) (A : Atoms 𝓤) (W : Given 𝓤 H A) (mem : Memory → SProp 𝓤) (run : Routine → Fun 𝓤) (𝓣 : Tables 𝓤 H) → Triple 𝓤 (𝓣 .C #steps·audit-lists) (contractOf 𝓤 H A audit-lists-F.ended (audit-lists-F.clauses 𝓤 H A mem run)) → Triple 𝓤 (𝓣 .C #index·fences-right) (contractOf 𝓤 H A fences-right-F.ended (fences-right-F.clauses 𝓤 H A mem run)) → Meets 𝓤 H A audit-value-F.signature (WpFn 𝓤 H (𝓣 .C) (𝓣 .Λ) code.function) (audit-value-F.spec 𝓤 H A mem run)
+audit-value-meets : {M : Type 1} (𝓤 : URA M) (H : Heap 𝓤) (A : Atoms 𝓤) (W : Given 𝓤 H A) (mem : Memory → SProp 𝓤) (run : Routine → Fun 𝓤) (𝓣 : Tables 𝓤 H) → Triple 𝓤 (𝓣 .C #audits·audit-lists) (contractOf 𝓤 H A audit-lists-F.ended (audit-lists-F.clauses 𝓤 H A mem run)) → Triple 𝓤 (𝓣 .C #index·fences-right) (contractOf 𝓤 H A fences-right-F.ended (fences-right-F.clauses 𝓤 H A mem run)) → Meets 𝓤 H A audit-value-F.signature (WpFn 𝓤 H (𝓣 .C) (𝓣 .Λ) code.function) (audit-value-F.spec 𝓤 H A mem run)
 audit-value-meets 𝓤 H A W mem run 𝓣 known-audit-lists known-fences-right =
     walk-meets 𝓤 H A audit-value-F.ended stayed W (goes-dropped 𝓤 H A W 3 (shrSliceOf (0 ∷ []) tt (plain (λ _. u32))) yes (λ κs x f. refl), (goes-dropped 𝓤 H A W 3 (shrSliceOf (1 ∷ []) tt (plain (λ _. Fence-T.the-row))) yes (λ κs x f. refl), (goes-slice 𝓤 H A W 3 2 tt (plain (λ _. u32)), (goes-dropped 𝓤 H A W 3 (plain (λ _. Plan-T.the-row)) yes (λ κs x f. refl), (goes-dropped 𝓤 H A W 3 (plain (λ _. u32)) yes (λ κs x f. refl), (goes-dropped 𝓤 H A W 3 (plain (λ _. u32)) yes (λ κs x f. refl), tt))))))
     (audit-value-F.clauses 𝓤 H A mem run) (WpFn 𝓤 H (𝓣 .C) (𝓣 .Λ) code.function) (WpFn-mono 𝓤 H (W .laws) 𝓣 code.function) (audit-value-walks 𝓤 H A W mem run 𝓣 known-audit-lists known-fences-right)
@@ -161,5 +161,5 @@ audit-value-spec 𝓤 H 𝓜 𝓖 𝓡 =
     entered 𝓤 H (tripleOf 𝓤 H (𝓖 .A) audit-value-F.signature (audit-value-F.spec 𝓤 H (𝓖 .A) (𝓜 .mem) (𝓡 .run)))
     (tables 𝓤 H 𝓜 𝓡 code.env .C) (tables 𝓤 H 𝓜 𝓡 code.env .Λ) #index·audit-value code.function (code.unfolded 𝓤 H 𝓜 𝓡)
     (audit-value-meets 𝓤 H (𝓖 .A) (givenOf 𝓤 H 𝓜 𝓖) (𝓜 .mem) (𝓡 .run) (tablesOf 𝓤 H 𝓜 (tables 𝓤 H 𝓜 𝓡 code.env))
-    (cited 𝓤 H (tripleOf 𝓤 H (𝓖 .A) audit-lists-F.signature (audit-lists-F.spec 𝓤 H (𝓖 .A) (𝓜 .mem) (𝓡 .run))) 𝓜 𝓡 code.env #steps·audit-lists audit-lists-def.routine code.calls-steps·audit·audit-lists (audit-lists-thm.met 𝓤 H 𝓜 𝓖 𝓡))
+    (cited 𝓤 H (tripleOf 𝓤 H (𝓖 .A) audit-lists-F.signature (audit-lists-F.spec 𝓤 H (𝓖 .A) (𝓜 .mem) (𝓡 .run))) 𝓜 𝓡 code.env #audits·audit-lists audit-lists-def.routine code.calls-audits·value·audit-lists (audit-lists-thm.met 𝓤 H 𝓜 𝓖 𝓡))
     (cited 𝓤 H (tripleOf 𝓤 H (𝓖 .A) fences-right-F.signature (fences-right-F.spec 𝓤 H (𝓖 .A) (𝓜 .mem) (𝓡 .run))) 𝓜 𝓡 code.env #index·fences-right fences-right-def.routine code.calls-index·fences·fences-right (fences-right-thm.met 𝓤 H 𝓜 𝓖 𝓡)))
