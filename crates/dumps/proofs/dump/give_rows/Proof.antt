@@ -16,9 +16,9 @@ same-length c = search needs
 
 returns-2 : tie.Need-returns-2
 returns-2 c =
-    let start = c .before .before .before .before .before .before in
+    let start = c .before .before .before .before .before .before .before in
     let a = start .args in
-    given (a .issued) (a .rows .now) (a .out .now) (start .pre) (c .before .before .before .if1 .left)
+    given (a .issued) (a .rows .now) (a .out .now) (start .pre) (c .before .before .before .before .if1 .left)
     (c .before .before .copy-rows .last .1 .0) (c .before .before .copy-rows .ensures)
 
 pub give-rows-spec : {M : Type 1} → statement M
