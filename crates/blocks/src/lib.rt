@@ -3,7 +3,7 @@
 // list U. Reading a group, the whole check, writing either list, and the fences of V as plain numbers.
 //
 // A block is named by the lent words, its place `at` in them and the shape that all blocks share. Below
-// stand `lists` and `words`. This crate knows nothing of calls, of fence records and of several values.
+// stand `reads` and `words`. This crate knows nothing of calls, of fence records and of several values.
 pub mod fence;
 pub mod put;
 pub mod read;

@@ -1,8 +1,8 @@
 // The index: a header by value, lent words and lent fence records, and the calls of document 01 over
 // them. Every call takes any header, any words and any records, and no caller has to check first.
 //
-// Below it stands `steps`, which has everything that a call does without a slice of fence records. It
-// knows nothing of histories and programs.
+// Below it stand `steps`, `values`, `columns`, `dumps` and `audits`, which have everything that a call does
+// without a slice of fence records. It knows nothing of histories and programs.
 pub mod answering;
 pub mod auditing;
 pub mod changing;

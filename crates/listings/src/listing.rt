@@ -199,7 +199,7 @@ fn put_part(out: &mut [u32], at: usize, pending: Pending, groups: &[u32]) -> Lis
 }
 
 // Writes the list of some groups, all zero behind them up to `total`, over zeros; answers its length.
-// Eight groups are taken in at a time, and those behind by one step.
+// Eight groups are taken in at a time, the last few one by one, and the zeros behind by one step.
 fn list_into(groups: &[u32], total: u32, out: &mut [u32]) -> usize
     requires { ⌜ (length (now groups) ≤ total) × (total ≤ 4096) × (total ≤ length (now out)) × ((i : ℕ) → getD (now out) i 0 ≡ 0) ⌝ }
     ensures { λ r. ⌜ (r ≡ length (encode (padded total (now (groups .entry)))))
