@@ -2,6 +2,6 @@
 // other value.
 //
 // Below stand `blocks`, which knows where a block has its lists, and `steps`, which has the sizes of an
-// index; above it `index`, which has the fence records and goes from value to value.
+// index; above it `fences`, which has the fence records and goes from value to value.
 pub mod audit;
 pub mod value;

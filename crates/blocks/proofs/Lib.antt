@@ -1,9 +1,6 @@
 pub mod Blocks
 pub mod EmptyUpdates
-pub mod FenceLaws
 pub mod Parts
-pub mod Reaching
-pub mod Readings
 pub mod Rooms
 pub mod Sizes
 pub mod WholeLists

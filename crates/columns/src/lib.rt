@@ -2,6 +2,6 @@
 // value's list in its block.
 //
 // Below it stand `listings`, for the list of one value, and `steps`, which has the header and the refusals that
-// calls begin with; above it `index`, which has the fence records.
+// calls begin with; above it `index`, which has the fences made besides.
 pub mod column;
 pub mod spread;

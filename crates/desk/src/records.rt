@@ -1,6 +1,6 @@
 // The commands that look at the console's fence records or set them.
-use index::fences::fence_at;
-use index::fences::put_fence;
+use fences::records::fence_at;
+use fences::records::put_fence;
 use lines::orders::Order;
 use lines::put::begin_answer;
 use lines::put::end_answer;

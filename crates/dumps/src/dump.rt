@@ -7,12 +7,12 @@ ghost use Rattle.answers.specs.Outcome.{Gives};
 ghost use Rattle.groups.specs.Rows.{rowLimit};
 ghost use Rattle.steps.specs.Plans.{Suits, blockIn};
 ghost use Rattle.dumps.specs.Dumping.{fencesFor, fenceHolds, fenceMarked, rowsGiven};
-use crate::marking::copy_rows;
 use crate::span::mark_span;
 use answers::Answer;
 use answers::Refusal;
 use groups::rows::groups_for;
 use groups::rows::smaller;
+use marks::marking::copy_rows;
 use steps::entry::Plan;
 use steps::header::Fence;
 

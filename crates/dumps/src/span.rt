@@ -7,16 +7,17 @@ ghost use Rattle.groups.specs.Rows.{groupsFor};
 ghost use Rattle.words.specs.Writer.{Alone};
 ghost use Rattle.blocks.specs.Shape.{Limits, blockSize};
 ghost use Rattle.blocks.specs.Block.{part};
-ghost use Rattle.dumps.specs.Dump.{groupsHold, groupsMarked, inLists, spanHolds, spanMarked};
-use crate::marking::mark_groups;
+ghost use Rattle.dumps.specs.Dump.{inLists, spanHolds, spanMarked};
+ghost use Rattle.marks.specs.Marks.{groupsHold, groupsMarked};
 use blocks::shape::Shape;
 use blocks::shape::update_room;
-use lists::combine::smaller;
+use marks::marking::mark_groups;
 use reads::walk::Walk;
 use reads::walk::walk_on;
 use reads::walk::walk_to;
 use words::word::ALL_ONES;
 use words::word::group_in;
+use words::word::smaller;
 
 // Up to which group, of those before `to`, all have the bits of `group`, behind which two words cover
 // `beyond` and `more` groups. A group that is not uniform stands alone.

@@ -17,7 +17,7 @@ use Rattle.index.specs.Soundness.{Sound}
 use Rattle.index.specs.Calls.{whole, queryList, queryOutcome, byteOf, bytesOf, dumpOutcome, auditOutcome}
 use Rattle.steps.specs.declared.header.Header.{Header}
 use Rattle.values.proofs.Altering.{either}
-use Rattle.index.proofs.Every.{holds-every}
+use Rattle.fences.proofs.Every.{holds-every}
 use Rattle.history.specs.Calls.{Call, Query, Dump, Audit, Reply, answering, obey, replied}
 use Rattle.history.specs.Plain.{Plain, headerOf, byteAt, PlainReply, writing, plainList, plainBadValue, plainly}
 use Rattle.history.specs.History.{Agrees, Good}

@@ -8,11 +8,11 @@ use Rattle.lists.specs.OneRow.{turnedOver}
 use Rattle.reads.specs.Walk.{walkTo}
 use Rattle.blocks.specs.Shape.{fenceCount}
 use Rattle.blocks.specs.Block.{part, write, valueWords, updateWords, valueList, updateList, current, padded, withUpdate, blockOf, zeroList}
-use Rattle.blocks.specs.Read.{readValue, readUpdate, readGroup}
+use Rattle.readings.specs.Read.{readValue, readUpdate, readGroup}
 use Rattle.blocks.specs.Whole.{updateOnes, wholeLists}
-use Rattle.values.specs.Change.{merged, turnedList, turned, mergeDue, flipped}
+use Rattle.merges.specs.Change.{merged, turnedList, turned, mergeDue, flipped}
 use Rattle.listings.specs.Column.{listFor, loaded}
-use Rattle.blocks.specs.Fences.{fenceAt}
+use Rattle.readings.specs.Fences.{fenceAt}
 use Rattle.steps.specs.Memory.{limits, withinLimits, lent, blockAt, rowsIn}
 use Rattle.steps.specs.Reading.{fenceFor, readIn, rowOf, valueOf}
 use Rattle.index.specs.Calls.{whole, withBlock, renewed, flippedIn, loadAfter, queryList, queryOutcome, valueOutcome, insertAfter, deleteAfter, updateAfter}

@@ -7,7 +7,7 @@ use native.Mathlib.Omega.{arith}
 use lib.ListN.{length, getD}
 use Rattle.blocks.specs.Shape.{blockSize, fenceCount}
 use Rattle.blocks.specs.Block.{part, write, valueList}
-use Rattle.blocks.specs.Fences.{fenceAt}
+use Rattle.readings.specs.Fences.{fenceAt}
 use Rattle.blocks.specs.declared.shape.Shape.{Shape}
 use Rattle.blocks.proofs.Blocks.{block-written, block-apart}
 use Rattle.blocks.proofs.Parts.{getD-part, length-write, part-write, part-apart}

@@ -8,7 +8,7 @@ use lib.Dec.{leb, eqb}
 use lib.ListN.{getD}
 use borrow.Author.Tests.{leb-false}
 use Rattle.answers.specs.declared.Refusal.the-variants.{Damaged}
-use Rattle.blocks.specs.declared.read.Reading.the-variants.{Group}
+use Rattle.readings.specs.declared.read.Reading.the-variants.{Group}
 use Rattle.steps.specs.Memory.{Memory, rowsIn, every}
 use Rattle.steps.specs.Reading.{rowStep, readRow, rowOf, isDamaged, isDeleted, refusedValue, valueOf, ValuePaper, statePaper, valuePaper}
 use Rattle.index.specs.Soundness.{Sound}
@@ -18,7 +18,7 @@ use Rattle.steps.specs.declared.row.Row.{Row}
 use Rattle.steps.specs.declared.row.State.{State}
 use Rattle.steps.specs.declared.row.State.the-variants.{Live, Deleted, Refused}
 use Rattle.values.proofs.Altering.{either}
-use Rattle.index.proofs.Every.{holds-every}
+use Rattle.fences.proofs.Every.{holds-every}
 use Rattle.steps.proofs.Headers.{within}
 use Rattle.history.proofs.Sound.{sound-lent, sound-whole}
 use Rattle.history.proofs.SoundReading.{sound-reads, row-undamaged}

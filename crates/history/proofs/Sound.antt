@@ -20,7 +20,7 @@ use Rattle.steps.specs.Memory.{Memory, withinLimits, shapeOf, lent, blockAt, ro
 use Rattle.index.specs.Soundness.{SoundLists, FencesRight, Sound}
 use Rattle.index.specs.Calls.{badHeader, small, auditOutcome}
 use Rattle.steps.specs.declared.header.Header.{Header}
-use Rattle.index.proofs.Every.{every-holds, holds-every}
+use Rattle.fences.proofs.Every.{every-holds, holds-every}
 use Rattle.steps.proofs.Headers.{within, within-limits}
 use Rattle.index.proofs.Holders.{few-apart, apart-few}
 use Rattle.history.proofs.SoundBlocks.{lists-whole, current-clear}

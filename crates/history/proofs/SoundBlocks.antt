@@ -12,12 +12,12 @@ use Rattle.lists.specs.Combine.{exclusive, answer}
 use Rattle.lists.proofs.TurningOver.{rowAt-turnedOver-other}
 use Rattle.blocks.specs.Shape.{Limits, updateRoom, blockSize}
 use Rattle.blocks.specs.Block.{updateList, current, padded, zeroList}
-use Rattle.values.specs.Change.{merged, turned, mergeDue, flipped}
+use Rattle.merges.specs.Change.{merged, turned, mergeDue, flipped}
 use Rattle.blocks.specs.Whole.{wholeLists}
 use Rattle.blocks.specs.declared.shape.Shape.{Shape}
 use Rattle.blocks.proofs.EmptyUpdates.{emptied, value-emptied, update-emptied, ones-emptied}
-use Rattle.values.proofs.Flipping.{kept-ready, merged-ready}
-use Rattle.values.proofs.Turning.{Spare, turnedList-fits, value-turned, update-turned, decode-turned, whole-turned}
+use Rattle.merges.proofs.Flipping.{kept-ready, merged-ready}
+use Rattle.merges.proofs.Turning.{Spare, turnedList-fits, value-turned, update-turned, decode-turned, whole-turned}
 use Rattle.blocks.proofs.WholeLists.{whole-parts, parts-whole, rowAt-current, current-fits, decode-current, canonical-current}
 use Rattle.blocks.proofs.ZeroList.{length-zeroList, decode-zeroList, canonical-zeroList}
 use Rattle.listings.proofs.listing.Rows.{getD-padded}

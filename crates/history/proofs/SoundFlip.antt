@@ -12,8 +12,8 @@ use Rattle.groups.specs.Rows.{rowAt}
 use Rattle.lists.specs.OneRow.{turnedOver}
 use Rattle.blocks.specs.Shape.{blockSize}
 use Rattle.blocks.specs.Block.{current}
-use Rattle.values.specs.Change.{mergeDue, flipped}
-use Rattle.values.proofs.Flipping.{length-flipped, current-flipped, rowAt-flipped, rowAt-flipped-other, value-kept}
+use Rattle.merges.specs.Change.{mergeDue, flipped}
+use Rattle.merges.proofs.Flipping.{length-flipped, current-flipped, rowAt-flipped, rowAt-flipped-other, value-kept}
 use Rattle.blocks.proofs.Parts.{length-part}
 use Rattle.steps.specs.Entry.{grown}
 use Rattle.steps.specs.Memory.{Memory, shapeOf, blockAt, rowsIn}

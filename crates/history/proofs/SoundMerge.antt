@@ -4,8 +4,8 @@ use mathlib.Core.List.{List}
 use Prim.Native.Nat.{ℕ, _<_}
 use native.Mathlib.Omega.{arith}
 use Rattle.blocks.specs.Block.{current}
-use Rattle.values.specs.Change.{merged}
-use Rattle.values.proofs.Merging.{length-merged, current-merged}
+use Rattle.merges.specs.Change.{merged}
+use Rattle.merges.proofs.Merging.{length-merged, current-merged}
 use Rattle.steps.specs.Memory.{Memory, shapeOf, blockAt, rowsIn}
 use Rattle.index.specs.Soundness.{Sound}
 use Rattle.index.specs.Calls.{mergedIn, queryOutcome, valueOutcome, dumpOutcome}

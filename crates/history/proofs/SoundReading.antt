@@ -10,9 +10,9 @@ use lib.ListN.{getD}
 use borrow.Author.Tests.{le-ltb}
 use Rattle.groups.specs.Rows.{rowAt}
 use Rattle.blocks.specs.Shape.{fenceCount}
-use Rattle.blocks.specs.Fences.{cursorAt}
-use Rattle.blocks.specs.declared.read.Reading.the-variants.{Group}
-use Rattle.blocks.proofs.Reaching.{Reaches, fence-reads}
+use Rattle.readings.specs.Fences.{cursorAt}
+use Rattle.readings.specs.declared.read.Reading.the-variants.{Group}
+use Rattle.readings.proofs.Reaching.{Reaches, fence-reads}
 use Rattle.blocks.proofs.Sizes.{fence-of}
 use Rattle.steps.specs.Memory.{Memory, shapeOf, blockAt, rowsIn, holdersOf}
 use Rattle.steps.specs.Fences.{noFence}

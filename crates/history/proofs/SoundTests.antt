@@ -14,7 +14,7 @@ use Rattle.words.specs.Words.{decode}
 use Rattle.groups.proofs.Tail.{allZero-getD, getD-allZero, clearFrom-rowAt, rowAt-clearFrom}
 use Rattle.blocks.specs.Shape.{blockSize, fenceCount}
 use Rattle.blocks.specs.Block.{valueLength, updateLength, valueWords, updateWords, valueList, updateList}
-use Rattle.blocks.specs.Fences.{fenceAt}
+use Rattle.readings.specs.Fences.{fenceAt}
 use Rattle.blocks.specs.declared.shape.Shape.{Shape}
 use Rattle.blocks.proofs.Parts.{length-part}
 use Rattle.blocks.specs.Audit.{soundLists}

@@ -8,10 +8,11 @@ use native.Mathlib.Omega.{arith}
 use lib.Dec.{eqb, ltb}
 use borrow.Author.Tests.{lt-ltb, le-ltb, le-leb, lt-leb, ltb-true, ltb-false, eqb-true, eqb-false}
 use Rattle.groups.specs.Rows.{groupsFor}
-use Rattle.dumps.specs.Dump.{eachRow, everyRow, freeInReading, markedInReading, inSpan, freeInSpan, markedInSpan, spanHolds, spanMarked}
-use Rattle.dumps.proofs.EachRow.{each-keeps, each-then, each-agrees, each-every, every-then, every-agrees}
+use Rattle.dumps.specs.Dump.{freeInSpan, markedInSpan, spanHolds, spanMarked}
+use Rattle.marks.specs.Marks.{eachRow, everyRow, freeInReading, markedInReading, inSpan}
+use Rattle.marks.proofs.EachRow.{each-keeps, each-then, each-agrees, each-every, every-then, every-agrees}
 use Rattle.blocks.proofs.Sizes.{rounded-of}
-use Rattle.blocks.specs.Read.{readGroup}
+use Rattle.readings.specs.Read.{readGroup}
 use Rattle.steps.specs.Memory.{Memory, shapeOf, blockAt}
 use Rattle.steps.specs.Reading.{fenceFor, readIn}
 use Rattle.dumps.specs.Dumping.{fencesFor, fenceHolds, fenceMarked, fenceNumber, turnHolds, turnMarked, markedFences, fencesHold}

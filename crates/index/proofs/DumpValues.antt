@@ -6,10 +6,10 @@ use Prim.Native.Nat.{ℕ, zero, suc, _+_, _-_, _/_, _%_, _^_, _<_, _≤_}
 use native.Mathlib.Omega.{arith}
 use lib.Dec.{eqb, ltb}
 use borrow.Author.Tests.{lt-ltb, ne-eqb}
-use Rattle.dumps.specs.Dump.{eachRow, everyRow, freeInReading, markedInReading}
-use Rattle.blocks.specs.declared.read.Reading.{Reading}
-use Rattle.blocks.specs.declared.read.Reading.the-variants.{Group, Broken}
-use Rattle.dumps.proofs.EachRow.{each-keeps, each-then, each-every, every-then}
+use Rattle.marks.specs.Marks.{eachRow, everyRow, freeInReading, markedInReading}
+use Rattle.readings.specs.declared.read.Reading.{Reading}
+use Rattle.readings.specs.declared.read.Reading.the-variants.{Group, Broken}
+use Rattle.marks.proofs.EachRow.{each-keeps, each-then, each-every, every-then}
 use Rattle.steps.specs.Memory.{Memory}
 use Rattle.steps.specs.Reading.{readIn, rowStep, readRow, isDamaged, isDeleted}
 use Rattle.dumps.specs.Dumping.{markedValues, valuesHold}

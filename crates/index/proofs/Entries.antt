@@ -5,7 +5,7 @@ use mathlib.Core.List.{List, [], _∷_, _++_}
 use Prim.Native.Nat.{ℕ, _*_}
 use lib.Dec.{leb}
 use lib.ListN.{length}
-use borrow.Author.Tests.{leb-true, le-leb, not-false}
+use borrow.Author.Tests.{leb-true, not-false}
 use Rattle.answers.specs.Outcome.{Check, _when_, outcome}
 use Rattle.answers.specs.declared.Refusal.{Refusal}
 use Rattle.answers.specs.declared.Refusal.the-variants.{BadHeader, Small, NoRow}
@@ -52,16 +52,6 @@ module _ (words fences : ℕ) (header : Header) (checks : List Check) (plan : Pl
         lends = lends;
         passes = told .1 .1 .1;
       }
-
--- what is planned is lent
-pub planned-lent : {header : Header} {plan : Plan} {words fences : ℕ} → Planned header plan words fences → lent header words fences ≡ true
-unfolding lent
-planned-lent {header} {plan} {words} {fences} is =
-    rw (
-      le-leb (header .values * blockSize (shapeOf header)) words (is .words-lent),
-      le-leb (header .values * fenceCount (shapeOf header)) fences (is .fences-lent),
-    )
-    refl
 
 -- ---- what an entry says of the call's answer
 

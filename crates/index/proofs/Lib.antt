@@ -2,12 +2,8 @@ pub mod DumpFences
 pub mod DumpValues
 pub mod DumpLaws
 pub mod Entries
-pub mod Every
 pub mod Holders
 pub mod MemoryLeft
 pub mod OneOutcome
-pub mod Planning
 pub mod Refusing
-pub mod Taken
-pub mod Taking
 pub mod ValuePapers

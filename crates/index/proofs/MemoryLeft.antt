@@ -6,7 +6,7 @@ use Prim.Native.Nat.{ℕ, _*_, _<_}
 use lib.ListN.{length}
 use Rattle.blocks.specs.Shape.{fenceCount}
 use Rattle.blocks.specs.Block.{write, valueList}
-use Rattle.values.specs.Change.{mergeDue}
+use Rattle.merges.specs.Change.{mergeDue}
 use Rattle.values.specs.Alter.{isWhole, mergeWords, flipWords, moveWords}
 use Rattle.steps.specs.Plans.{Suits, blockIn}
 use Rattle.values.specs.Alter.{renewedFences, flipFences, moveFences}

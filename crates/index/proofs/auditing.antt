@@ -1,3 +1,2 @@
--- What the proofs of Audit use: one turn of the loop over values, and each way out.
+-- What the proofs of Audit use: each way out.
 mod Exits
-mod Turns

@@ -1,3 +1,2 @@
--- What the proofs of Dump use: one turn of each loop, and each way out.
+-- What the proofs of Dump use: each way out.
 mod Exits
-mod Turns

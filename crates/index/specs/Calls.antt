@@ -11,7 +11,7 @@ use Rattle.words.specs.Words.{encode}
 use Rattle.blocks.specs.Shape.{blockSize, fenceCount}
 use Rattle.blocks.specs.Block.{write, valueList}
 use Rattle.blocks.specs.Whole.{wholeLists}
-use Rattle.values.specs.Change.{merged, mergeDue, flipped}
+use Rattle.merges.specs.Change.{merged, mergeDue, flipped}
 use Rattle.listings.specs.Column.{loaded}
 use Rattle.steps.specs.Entry.{validColumn, headerFor, noHeader, grown}
 use Rattle.steps.specs.Fences.{fencesFrom}

@@ -9,8 +9,8 @@ use Rattle.words.specs.Words.{decode, canonical}
 use Rattle.blocks.specs.Shape.{updateRoom, blockSize, fenceCount}
 use Rattle.blocks.specs.Block.{valueLength, updateLength, valueWords, updateWords, valueList, updateList}
 use Rattle.blocks.specs.Whole.{updateOnes}
-use Rattle.blocks.specs.Fences.{fenceAt}
-use Rattle.blocks.specs.declared.fence.Cursor.{Cursor}
+use Rattle.readings.specs.Fences.{fenceAt}
+use Rattle.readings.specs.declared.fence.Cursor.{Cursor}
 use Rattle.blocks.specs.declared.shape.Shape.{Shape}
 use Rattle.steps.specs.Memory.{Memory, withinLimits, shapeOf, blockAt, rowsIn}
 use Rattle.steps.specs.Fences.{noFence}

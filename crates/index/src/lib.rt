@@ -1,15 +1,13 @@
 // The index: a header by value, lent words and lent fence records, and the calls of document 01 over
 // them. Every call takes any header, any words and any records, and no caller has to check first.
 //
-// Below it stand `steps`, `values`, `columns`, `dumps` and `audits`, which have everything that a call does
-// without a slice of fence records. It knows nothing of histories and programs.
+// Below it stand `fences`, which has the loops over fence records, and `steps`, `values`, `columns`, `dumps`
+// and `audits`, which have everything that a call does without them. It knows nothing of histories and programs.
 pub mod answering;
 pub mod auditing;
 pub mod changing;
 pub mod dumping;
-pub mod fences;
 pub mod loading;
-pub mod reading;
 
 pub use answering::query;
 pub use answering::value;

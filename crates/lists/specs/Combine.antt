@@ -2,12 +2,10 @@
 use mathlib.Core.Path.{_≡_}
 use mathlib.Core.Bool.{Bool, true}
 use mathlib.Core.List.{List, [], _∷_, _++_, map}
-use Prim.Native.Nat.{ℕ, zero, suc, _+_, _*_, _-_, _/_, _%_, _<_, _≤_}
+use Prim.Native.Nat.{ℕ, zero, suc, _+_, _*_, _/_, _%_, _<_}
 use lib.ListN.{length, getD, take, drop, replicate}
 use Rattle.groups.specs.Rows.{allZero}
 use Rattle.words.specs.Words.{runOf, span, decode, noFill, wellFormed}
-use Rattle.words.specs.Writer.{Alone}
-use Rattle.lists.specs.declared.combine.Span.{Span}
 
 -- the answers for the bits 0 0, 0 1, 1 0 and 1 1
 pub record Operation : Type 0 where
@@ -71,19 +69,3 @@ Formed list = wellFormed noFill (map runOf list) ≡ true
 pub record Covers (groups : ℕ) (list : List ℕ) : Type 0 where
   pub filled : Filled list
   pub long : length (decode list) ≡ groups
-
--- what is left of a list: so many times one group, then the groups of the words from a place on
-abbrev pub remaining : List ℕ → Span → List ℕ
-remaining list span = replicate (span .left) (span .group) ++ decode (drop (span .next) list)
-
--- a span without its first groups
-abbrev pub shorter : Span → ℕ → Span
-shorter span count = record { group = span .group; left = span .left - count; next = span .next }
-
--- a span of the same groups that has one at hand
-pub record Opened (list : List ℕ) (before after : Span) : Type 0 where
-  pub same : remaining list before ≡ remaining list after
-  pub some : 0 < after .left
-  pub alone : Alone (after .group) (after .left)
-  pub small : after .group < 0x80000000
-  pub near : after .next ≤ length list

@@ -1,3 +1,2 @@
 pub mod Combine
-pub mod Copying
 pub mod OneRow

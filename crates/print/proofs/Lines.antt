@@ -18,7 +18,7 @@ use Rattle.answers.proofs.Accepted.{Passes, no-zero}
 use Rattle.steps.specs.Memory.{Memory}
 use Rattle.index.specs.Calls.{queryChecks, queryList, queryOutcome}
 use Rattle.steps.specs.declared.header.Header.{Header}
-use Rattle.index.proofs.Planning.{one-more}
+use Rattle.fences.proofs.Planning.{one-more}
 use Rattle.print.specs.Frame.{isFrame, rowsIn, valuesIn, thresholdIn, spacingIn, columnIn}
 use Rattle.print.specs.Text.{valueLine, refusalLine}
 use Rattle.print.specs.Printed.{unlessRefused, answerLine, queryLine, valueLines, columnLines, frameLines}

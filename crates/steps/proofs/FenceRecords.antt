@@ -6,9 +6,9 @@ use Prim.Native.Nat.{ℕ, zero, suc, _+_, _*_, _<_}
 use native.Mathlib.Nat.{add-zero, zero-add, add-suc, suc-add, not-suc-le-zero, mul-le-mul-right}
 use native.Mathlib.Omega.{arith}
 use lib.ListN.{length, getD}
-use Rattle.blocks.specs.Fences.{locateFrom, fenceAt}
+use Rattle.readings.specs.Fences.{locateFrom, fenceAt}
 use Rattle.blocks.specs.declared.shape.Shape.{Shape}
-use Rattle.blocks.proofs.FenceLaws.{Stands, stands-first, stands-later, fence-stands, fence-later}
+use Rattle.readings.proofs.FenceLaws.{Stands, stands-first, stands-later, fence-stands, fence-later}
 use Rattle.steps.specs.Fences.{fenceOf, fencesFrom, fenceBefore, isFence, rightFences, noFence}
 use Rattle.steps.specs.declared.header.Fence.{Fence}
 

@@ -7,9 +7,9 @@ use native.Mathlib.Omega.{arith}
 use lib.Dec.{eqb}
 use borrow.Author.Tests.{eq-eqb, ne-eqb}
 use Rattle.blocks.specs.Shape.{Limits}
-use Rattle.blocks.specs.declared.read.Reading.{Reading}
-use Rattle.blocks.specs.declared.read.Reading.the-variants.{Group, Broken}
-use Rattle.blocks.proofs.Readings.{group-says}
+use Rattle.readings.specs.declared.read.Reading.{Reading}
+use Rattle.readings.specs.declared.read.Reading.the-variants.{Group, Broken}
+use Rattle.readings.proofs.Readings.{group-says}
 use Rattle.steps.specs.Memory.{Memory, shapeOf, blockAt}
 use Rattle.steps.specs.Reading.{fenceFor, readIn, rowStep, readRow, rowOf}
 use Rattle.steps.specs.declared.header.Header.{Header}

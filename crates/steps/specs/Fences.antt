@@ -3,8 +3,8 @@ use mathlib.Core.Bool.{Bool, true, _&&_}
 use mathlib.Core.List.{List, [], _∷_}
 use Prim.Native.Nat.{ℕ, zero, suc}
 use lib.Dec.{eqb}
-use Rattle.blocks.specs.Fences.{cursorAt, fenceAt}
-use Rattle.blocks.specs.declared.fence.Cursor.{Cursor}
+use Rattle.readings.specs.Fences.{cursorAt, fenceAt}
+use Rattle.readings.specs.declared.fence.Cursor.{Cursor}
 use Rattle.blocks.specs.declared.shape.Shape.{Shape}
 use Rattle.steps.specs.declared.header.Fence.{Fence}
 

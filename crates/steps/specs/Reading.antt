@@ -7,9 +7,9 @@ use Rattle.answers.specs.Numbers.{numberOf}
 use Rattle.answers.specs.declared.Refusal.{Refusal}
 use Rattle.answers.specs.declared.Refusal.the-variants.{Damaged, Gone}
 use Rattle.blocks.specs.Shape.{fenceCount}
-use Rattle.blocks.specs.Read.{readGroup}
-use Rattle.blocks.specs.declared.read.Reading.{Reading}
-use Rattle.blocks.specs.declared.read.Reading.the-variants.{Group, Broken}
+use Rattle.readings.specs.Read.{readGroup}
+use Rattle.readings.specs.declared.read.Reading.{Reading}
+use Rattle.readings.specs.declared.read.Reading.the-variants.{Group, Broken}
 use Rattle.steps.specs.Fences.{noFence}
 use Rattle.steps.specs.Memory.{Memory, shapeOf, blockAt}
 use Rattle.steps.specs.declared.header.Header.{Header}

@@ -4,13 +4,13 @@ ghost use Prim.Native.Nat.{_/_, _<_, _≤_};
 ghost use lib.ListN.{length};
 ghost use Rattle.blocks.specs.Shape.{fenceCount};
 ghost use Rattle.blocks.specs.Block.{valueLength};
-ghost use Rattle.blocks.specs.Fences.{cursorAt, fenceAt};
+ghost use Rattle.readings.specs.Fences.{cursorAt, fenceAt};
 ghost use Rattle.steps.specs.Plans.{Suits, blockIn, listIn};
 ghost use Rattle.steps.specs.Fences.{isFence, fenceBefore};
 use crate::entry::Plan;
 use crate::header::Fence;
-use blocks::fence::Cursor;
-use blocks::fence::next_fence;
+use readings::fence::Cursor;
+use readings::fence::next_fence;
 
 // The first word of a list.
 pub fn first_word() -> Cursor

@@ -2,15 +2,15 @@
 ghost use mathlib.Core.Path.{_≡_};
 ghost use Prim.Native.Nat.{_/_, _<_, _≤_};
 ghost use lib.ListN.{length};
-ghost use Rattle.blocks.specs.Read.{readGroup};
+ghost use Rattle.readings.specs.Read.{readGroup};
 ghost use Rattle.steps.specs.Plans.{Suits, blockIn};
 ghost use Rattle.steps.specs.Reading.{noRow, rowStep, valueOf, refusedValue, isDamaged, isFree, holderOf};
 use crate::entry::Plan;
 use crate::header::Fence;
 use answers::Refusal;
-use blocks::read::Reading;
-use blocks::read::read_group;
 use groups::rows::row_of;
+use readings::read::Reading;
+use readings::read::read_group;
 
 // What the values read so far say of a row: whether a read failed, in how many values the row is, the
 // last of them, and the words opened.

@@ -7,10 +7,10 @@ use Prim.Native.Nat.{ℕ, _*_, _<_}
 use lib.ListN.{length}
 use Rattle.blocks.specs.Shape.{blockSize}
 use Rattle.blocks.specs.Whole.{wholeLists}
-use Rattle.values.specs.Change.{merged, flipped}
+use Rattle.merges.specs.Change.{merged, flipped}
 use Rattle.blocks.proofs.Blocks.{block-written, block-apart}
-use Rattle.values.proofs.Flipping.{length-flipped, whole-flipped}
-use Rattle.values.proofs.Merging.{length-merged, whole-merged}
+use Rattle.merges.proofs.Flipping.{length-flipped, whole-flipped}
+use Rattle.merges.proofs.Merging.{length-merged, whole-merged}
 use Rattle.blocks.proofs.Parts.{length-part, length-write}
 use Rattle.blocks.proofs.Sizes.{places-apart}
 use Rattle.values.specs.Alter.{putBlock, isWhole, mergeWords, flipWords}

@@ -1,4 +1,1 @@
 pub mod Altering
-pub mod Flipping
-pub mod Merging
-pub mod Turning

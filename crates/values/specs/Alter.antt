@@ -10,7 +10,7 @@ use Rattle.words.specs.Words.{encode}
 use Rattle.blocks.specs.Shape.{blockSize, fenceCount}
 use Rattle.blocks.specs.Block.{write, current}
 use Rattle.blocks.specs.Whole.{wholeLists}
-use Rattle.values.specs.Change.{merged, mergeDue, flipped}
+use Rattle.merges.specs.Change.{merged, mergeDue, flipped}
 use Rattle.steps.specs.Fences.{fencesFrom}
 use Rattle.steps.specs.Plans.{blockIn, listIn}
 use Rattle.steps.specs.declared.header.Fence.{Fence}

@@ -1,3 +1,1 @@
-pub mod Query
-pub mod Change
 pub mod Alter

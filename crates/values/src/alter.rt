@@ -4,17 +4,17 @@ ghost use mathlib.Core.Path.{_≡_};
 ghost use Prim.Native.Nat.{_<_};
 ghost use lib.ListN.{length};
 ghost use Rattle.answers.specs.Outcome.{Gives};
-ghost use Rattle.values.specs.Change.{flipOf};
+ghost use Rattle.merges.specs.Change.{flipOf};
 ghost use Rattle.values.specs.Alter.{mergeAlter, mergeWords, flipAlter, flipWords, moveAlter, moveWords, queryValue};
 ghost use Rattle.steps.specs.Plans.{Suits};
-use crate::change::Flipped;
-use crate::change::flip;
-use crate::change::merge;
-use crate::current::list_current;
 use answers::Answer;
 use answers::Refusal;
 use blocks::whole::Lists;
 use blocks::whole::check_lists;
+use merges::change::Flipped;
+use merges::change::flip;
+use merges::change::merge;
+use merges::current::list_current;
 use steps::entry::Plan;
 
 // What came of a change: refused, or done with fences kept or to be made anew.

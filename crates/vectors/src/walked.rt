@@ -1,7 +1,7 @@
 // Walks over document 004's list, and combinations of the documents' lists.
 use crate::say::say;
 use crate::say::say_words;
-use lists::combine::xor_into;
+use combinations::combine::xor_into;
 use reads::walk::Walk;
 use reads::walk::walk_to;
 use words::check::Checked;

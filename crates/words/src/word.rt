@@ -1,6 +1,6 @@
 // Words: a literal holds one group; a fill counts groups of one bit.
 ghost use mathlib.Core.Path.{_≡_};
-ghost use Prim.Native.Nat.{_<_, _/_, _%_};
+ghost use Prim.Native.Nat.{min, _<_, _/_, _%_};
 ghost use lib.Dec.{leb};
 ghost use Rattle.words.specs.Words.{Run, wordOf, runOf, span, groupIn};
 
@@ -51,4 +51,11 @@ pub fn group_in(word: u32) -> u32
     } else {
         word
     }
+}
+
+// The shorter of two spans.
+pub fn smaller(x: u32, y: u32) -> u32
+    ensures { λ r. ⌜ r ≡ min x y ⌝ }
+{
+    if x < y { x } else { y }
 }

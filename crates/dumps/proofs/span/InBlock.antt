@@ -7,13 +7,14 @@ use native.Mathlib.Omega.{arith}
 use lib.ListN.{length, getD, take, drop}
 use Rattle.blocks.specs.Shape.{updateRoom, blockSize}
 use Rattle.blocks.specs.Block.{part}
-use Rattle.blocks.specs.Read.{joined, readValue, readGroup}
+use Rattle.readings.specs.Read.{joined, readValue, readGroup}
 use Rattle.blocks.specs.declared.shape.Shape.{Shape}
-use Rattle.blocks.specs.declared.read.Reading.{Reading}
-use Rattle.blocks.specs.declared.read.Reading.the-variants.{Group, Broken}
-use Rattle.blocks.proofs.read.Exits.{update-long, update-walked, value-long, value-misplaced, value-walked}
-use Rattle.dumps.specs.Dump.{groupsHold, groupsMarked, inLists, inBlock, spanHolds, spanMarked}
-use Rattle.dumps.proofs.marking.Spans.{Agree, agree-same, holds-agree, marked-agree}
+use Rattle.readings.specs.declared.read.Reading.{Reading}
+use Rattle.readings.specs.declared.read.Reading.the-variants.{Group, Broken}
+use Rattle.readings.proofs.read.Exits.{update-long, update-walked, value-long, value-misplaced, value-walked}
+use Rattle.dumps.specs.Dump.{inLists, inBlock, spanHolds, spanMarked}
+use Rattle.marks.specs.Marks.{groupsHold, groupsMarked}
+use Rattle.marks.proofs.marking.Spans.{Agree, agree-same, holds-agree, marked-agree}
 use Rattle.dumps.proofs.span.Spanning.{Spanned, begin, ends, breaks-at}
 
 joined-broken : (reading : Reading) → joined reading Broken ≡ Broken

@@ -13,9 +13,10 @@ use Rattle.reads.specs.declared.walk.Walk.the-variants.{Covered, Damaged}
 use Rattle.lists.proofs.Covering.{word-small}
 use Rattle.reads.proofs.Onward.{on-same}
 use Rattle.lists.proofs.Operations.{exclusive-bits, xor-onGroup, onGroup-lt}
-use Rattle.blocks.specs.declared.read.Reading.the-variants.{Group, Broken}
-use Rattle.dumps.specs.Dump.{alike, inLists}
-use Rattle.dumps.proofs.marking.Spans.{Agree, agree-bits, holds-agree, marked-agree}
+use Rattle.readings.specs.declared.read.Reading.the-variants.{Group, Broken}
+use Rattle.dumps.specs.Dump.{inLists}
+use Rattle.marks.specs.Marks.{alike}
+use Rattle.marks.proofs.marking.Spans.{Agree, agree-bits, holds-agree, marked-agree}
 use Rattle.dumps.proofs.span.Spanning.{Spanned}
 
 -- the bits of the groups that two words cover

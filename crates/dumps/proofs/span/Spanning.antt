@@ -5,11 +5,11 @@ use mathlib.Core.List.{List}
 use Prim.Native.Nat.{ℕ, _*_, _<_, _≤_}
 use native.Mathlib.Omega.{arith}
 use lib.ListN.{length}
-use Rattle.dumps.specs.Dump.{markedInGroups, groupsHold, groupsMarked}
-use Rattle.blocks.specs.declared.read.Reading.{Reading}
-use Rattle.blocks.specs.declared.read.Reading.the-variants.{Broken}
-use Rattle.dumps.proofs.EachRow.{length-each}
-use Rattle.dumps.proofs.marking.Spans.{holds-none, marked-none, holds-join, marked-join, holds-broken}
+use Rattle.marks.specs.Marks.{markedInGroups, groupsHold, groupsMarked}
+use Rattle.readings.specs.declared.read.Reading.{Reading}
+use Rattle.readings.specs.declared.read.Reading.the-variants.{Broken}
+use Rattle.marks.proofs.EachRow.{length-each}
+use Rattle.marks.proofs.marking.Spans.{holds-none, marked-none, holds-join, marked-join, holds-broken}
 
 module _ (reading : ℕ → Reading) (issued value : ℕ) where
   -- what a span answers and leaves

@@ -24,7 +24,7 @@ use Rattle.steps.specs.declared.entry.Entry.the-variants.{Ready, Stop}
 use Rattle.steps.specs.declared.row.Row.{Row}
 use Rattle.steps.specs.declared.row.Value.{Value}
 use Rattle.index.proofs.Entries.{ready-enters, stop-outcome, ready-outcome, stop-value, ready-value}
-use Rattle.index.proofs.Planning.{suits}
+use Rattle.fences.proofs.Planning.{suits}
 
 module _ (words : List ℕ) (fences : List Fence) (header : Header) where
   abbrev memory : Memory

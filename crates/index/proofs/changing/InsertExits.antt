@@ -24,8 +24,9 @@ use Rattle.steps.specs.declared.entry.Entry.the-variants.{Ready, Stop}
 use Rattle.steps.specs.declared.row.Row.{Row}
 use Rattle.values.proofs.Altering.{flip-kept}
 use Rattle.index.proofs.Entries.{Enters, ready-enters, ready-change}
-use Rattle.index.proofs.changing.Leaving.{refused-leaves, made-leaves, is-false, is-true, fences-kept, memory-flipped, stops, whole-is}
-use Rattle.index.proofs.Planning.{fenced}
+use Rattle.index.proofs.changing.Leaving.{refused-leaves, made-leaves, fences-kept, memory-flipped, stops, whole-is}
+use Rattle.fences.proofs.Tests.{is-false, is-true}
+use Rattle.fences.proofs.Planning.{fenced}
 
 module _ (words : List ℕ) (fences : List Fence) (header : Header) where
   abbrev memory : Memory

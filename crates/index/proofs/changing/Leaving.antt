@@ -1,10 +1,9 @@
 -- What a call that changes rows leaves where it is refused and where it is done, and what the row that it reads says. Assumes nothing.
 use mathlib.Core.Path.{_≡_, refl, ap, _∙_}
-use mathlib.Core.Bool.{Bool, true, false, not, cond}
+use mathlib.Core.Bool.{Bool, true, false, cond}
 use mathlib.Core.List.{List, _∷_, _++_}
 use Prim.Native.Nat.{ℕ, _<_}
 use native.Mathlib.Omega.{arith}
-use lib.Dec.{T}
 use borrow.Author.Tests.{eqb-false}
 use Rattle.answers.specs.Outcome.{Check, _when_}
 use Rattle.answers.specs.declared.Refusal.{Refusal}
@@ -44,15 +43,6 @@ pub made-leaves : (header : Header) (count : ℕ) (words : List ℕ) (fences : L
     → (left : List ℕ) → left ≡ words → (remade : List Fence) → remade ≡ fences → Leaves after changed left remade
 made-leaves header count words fences after is changed gives left same remade kept =
     rw (is, gives, same, kept) (record { answers = refl; gives = refl; leaves = refl; keeps = refl })
-
--- a test by its arm
-pub is-false : (test : Bool) → T (not test) → test ≡ false
-is-false false h = refl
-is-false true h = absurd h
-
-pub is-true : (test : Bool) → T (not (not test)) → test ≡ true
-is-true true h = refl
-is-true false h = absurd h
 
 -- ---- a flip, as the calls have it
 

@@ -24,7 +24,7 @@ use Rattle.values.proofs.Altering.{merge-kept}
 use Rattle.index.proofs.Entries.{Enters, ready-enters, ready-change}
 use Rattle.index.proofs.MemoryLeft.{merged-memory}
 use Rattle.index.proofs.changing.Leaving.{refused-leaves, made-leaves, stops, whole-is}
-use Rattle.index.proofs.Planning.{fenced}
+use Rattle.fences.proofs.Planning.{fenced}
 use Rattle.values.proofs.alter.Answers.{merge-fails, merge-renews}
 
 module _ (words : List ℕ) (fences : List Fence) (header : Header) where

@@ -26,9 +26,10 @@ use Rattle.steps.specs.declared.row.Row.{Row}
 use Rattle.steps.specs.declared.row.Holder.the-variants.{Found, Lost}
 use Rattle.index.proofs.Entries.{Enters, ready-enters, ready-change}
 use Rattle.index.proofs.MemoryLeft.{moved-memory}
-use Rattle.index.proofs.changing.Leaving.{refused-leaves, made-leaves, is-false, is-true, stops, whole-is, holder-checks, lost, says, old-below, passed}
+use Rattle.index.proofs.changing.Leaving.{refused-leaves, made-leaves, stops, whole-is, holder-checks, lost, says, old-below, passed}
+use Rattle.fences.proofs.Tests.{is-false, is-true}
 use Rattle.walks.proofs.Flow.{holds}
-use Rattle.index.proofs.Planning.{numbers, fenced}
+use Rattle.fences.proofs.Planning.{numbers, fenced}
 use Rattle.values.proofs.alter.Moving.{move-kept}
 
 -- ---- a move, as the call has it

@@ -21,8 +21,8 @@ use Rattle.steps.specs.declared.header.Header.{Header}
 use Rattle.steps.specs.declared.header.Fence.{Fence}
 use Rattle.steps.specs.declared.entry.Plan.{Plan}
 use Rattle.columns.proofs.Loading.{loads-none, loads-next, loads-block}
-use Rattle.index.proofs.Planning.{one-more, numbers, limits, fenced}
-use Rattle.index.proofs.changing.Steps.{whole-short, still-fenced}
+use Rattle.fences.proofs.Planning.{one-more, numbers, limits, fenced}
+use Rattle.fences.proofs.flipping.Steps.{whole-short, still-fenced}
 
 module _ {header : Header} {plan : Plan} (words : List ℕ) (fences : List Fence) (column : List ℕ)
     (is : Planned header plan (length words) (length fences)) (few : length column ≤ header .rows) where

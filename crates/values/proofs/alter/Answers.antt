@@ -6,7 +6,7 @@ use Prim.Native.Nat.{ℕ}
 use native.Mathlib.Omega.{arith}
 use Rattle.answers.specs.declared.Refusal.{Refusal}
 use Rattle.answers.specs.declared.Refusal.the-variants.{Damaged}
-use Rattle.values.specs.Change.{mergeDue}
+use Rattle.merges.specs.Change.{mergeDue}
 use Rattle.values.specs.Alter.{isWhole, mergeAlter, flipAlter, moveAlter}
 use Rattle.steps.specs.Plans.{blockIn}
 use Rattle.values.specs.declared.alter.Alter.the-variants.{Fails, Keeps, Renews}

@@ -53,10 +53,10 @@ use Rattle.lines.proofs.put.begin_answer as begin-answer-F
 use Rattle.lines.proofs.put.begin_answer.Symbol as begin-answer-def
 use Rattle.lines.proofs.put.begin_answer.Symbol.{name as #lines·begin-answer}
 use Rattle.lines.proofs.put.begin_answer.Met as begin-answer-thm
-use Rattle.index.proofs.fences.fence_at as fence-at-F
-use Rattle.index.proofs.fences.fence_at.Symbol as fence-at-def
-use Rattle.index.proofs.fences.fence_at.Symbol.{name as #index·fence-at}
-use Rattle.index.proofs.fences.fence_at.Met as fence-at-thm
+use Rattle.fences.proofs.records.fence_at as fence-at-F
+use Rattle.fences.proofs.records.fence_at.Symbol as fence-at-def
+use Rattle.fences.proofs.records.fence_at.Symbol.{name as #fences·fence-at}
+use Rattle.fences.proofs.records.fence_at.Met as fence-at-thm
 use Rattle.lines.proofs.put.put_record as put-record-F
 use Rattle.lines.proofs.put.put_record.Symbol as put-record-def
 use Rattle.lines.proofs.put.put_record.Symbol.{name as #lines·put-record}
@@ -109,7 +109,7 @@ module _ {M : Type 1} (𝓤 : URA M) (H : Heap 𝓤) (A : Atoms 𝓤) (W : Given
       suffices ! _ (ends-at 𝓤 H A peek-fences-F.ended stayed (peek-fences-F.clauses 𝓤 H A mem run) W bound-of vunit tt (tt, (tt, (tt, tt))) (tt, (tt, (tt, tt)))) $ empties ! $
       nothing ! $ move ! (1 ∷ 0 ∷ []) $ join ! $ frame ! $ nothing ! $ nothing ! $ fjoin ! $ nothing ! $ fjoin ! $ nothing ! $ fjoin ! $ frame ! $ feqI ! (List Val) (vunit ∷ []) (vunit ∷ []) refl $ done !
 
-  module _ (𝓣 : Tables 𝓤 H) (fm : FmC 𝓤 H (W .laws) (𝓣 .C)) (known-begin-answer : Triple 𝓤 (𝓣 .C #lines·begin-answer) (contractOf 𝓤 H A begin-answer-F.ended (begin-answer-F.clauses 𝓤 H A mem run))) (known-fence-at : Triple 𝓤 (𝓣 .C #index·fence-at) (contractOf 𝓤 H A fence-at-F.ended (fence-at-F.clauses 𝓤 H A mem run))) (known-put-record : Triple 𝓤 (𝓣 .C #lines·put-record) (contractOf 𝓤 H A put-record-F.ended (put-record-F.clauses 𝓤 H A mem run))) (known-end-answer : Triple 𝓤 (𝓣 .C #lines·end-answer) (contractOf 𝓤 H A end-answer-F.ended (end-answer-F.clauses 𝓤 H A mem run))) where
+  module _ (𝓣 : Tables 𝓤 H) (fm : FmC 𝓤 H (W .laws) (𝓣 .C)) (known-begin-answer : Triple 𝓤 (𝓣 .C #lines·begin-answer) (contractOf 𝓤 H A begin-answer-F.ended (begin-answer-F.clauses 𝓤 H A mem run))) (known-fence-at : Triple 𝓤 (𝓣 .C #fences·fence-at) (contractOf 𝓤 H A fence-at-F.ended (fence-at-F.clauses 𝓤 H A mem run))) (known-put-record : Triple 𝓤 (𝓣 .C #lines·put-record) (contractOf 𝓤 H A put-record-F.ended (put-record-F.clauses 𝓤 H A mem run))) (known-end-answer : Triple 𝓤 (𝓣 .C #lines·end-answer) (contractOf 𝓤 H A end-answer-F.ended (end-answer-F.clauses 𝓤 H A mem run))) where
     walk : Room Fence-T.the-row (length fences) → from′ < 2 ^ 32 → count < 2 ^ 32 → ent 𝓤 (onEntry 𝓤 H A peek-fences-F.signature (κ₀, tt) (q₀, tt) args-of vals-of) (WpFn 𝓤 H (𝓣 .C) (𝓣 .Λ) code.function (sliceVal (b₀, o₀) (length fences) ∷ vint w32 from′ ∷ vint w32 count ∷ []) Post)
     walk room-fences fit-from′ fit-count =
         qed W ((‵ (flft κ₀ q₀) ⊛ ‵ ftrue) ∷ ‵ (owns (ShrSlice (named 0) κ₀ Fence-T.the-row ∷ u32 ∷ u32 ∷ []) args-of vals-of) ∷ []) ∵ enter ! (𝓣 .C) (𝓣 .Λ) code.function (sliceVal (b₀, o₀) (length fences) ∷ vint w32 from′ ∷ vint w32 count ∷ []) _ $
@@ -141,7 +141,7 @@ module _ {M : Type 1} (𝓤 : URA M) (H : Heap 𝓤) (A : Atoms 𝓤) (W : Given
         assigns ! (un ! (load ! (from ! (stop !)) (look ! 36 refl)) (record { fits = (widen-32-64 fit-from′) })) (from ! (stop !)) (init ! 18 refl (tt, record { fits = (widen-32-64 fit-from′) })) $
         assigns ! (un ! (load ! (from ! (stop !)) (look ! 28 refl)) (record { fits = (widen-32-64 (below-word (x .1 .1 .1 .0) fit-count)) })) (from ! (stop !)) (init ! 16 refl (tt, record { fits = (widen-32-64 (below-word (x .1 .1 .1 .0) fit-count)) })) $
         assigns ! (bin ! (load ! (from ! (stop !)) (look ! 18 refl)) (load ! (from ! (stop !)) (look ! 16 refl)) (record { fits = (fits-1 from′ count fit-from′ fit-count (x .0) (ltb→lt (x .0) count less-h)) })) (from ! (stop !)) (init ! 14 refl (tt, record { fits = (fits-1 from′ count fit-from′ fit-count (x .0) (ltb→lt (x .0) count less-h)) })) $
-        -- index::fences::fence_at
+        -- fences::records::fence_at
         calls-shr ! fm Fence-T.the-row Fence-T.the-row (plain (λ _. usize) ∷ []) (yes, tt) (fence-at-F.clauses 𝓤 H A mem run) known-fence-at b₀ o₀ γ₀ fences (length fences) refl
         (λ κs. ((from′ + (x .0)), tt)) (λ κs. (vint w64 (from′ + (x .0)) ∷ [], tt)) (λ κs. owns-make 𝓤 H A (usize ∷ []) (Ises (usize ∷ [])) (uint-makes 𝓤 H A W w64, tt) ((from′ + (x .0)), tt) (vint w64 (from′ + (x .0)) ∷ [], tt) ((refl, (fits-1 from′ count fit-from′ fit-count (x .0) (ltb→lt (x .0) count less-h))), tt)) (λ κs δ₀. tt) (λ κs δ₀. id⊢ 𝓤 _)
         (λ r2. r2 ≡ getD fences (from′ + (x .0)) noFence) (λ κs δ₀ r2 ws. id⊢ 𝓤 _) (λ κs δ₀. (and-then ! (load ! (from ! (stop !)) (look ! 38 refl)) (and-then ! (load ! (from ! (stop !)) (look ! 14 refl)) (no-more !))))
@@ -179,12 +179,12 @@ module _ {M : Type 1} (𝓤 : URA M) (H : Heap 𝓤) (A : Atoms 𝓤) (W : Given
         by ! (exits))))) (0, (r1, (out1, (zero-le, ((is1 .1), (n-out1, tt)))))))))))))))))))))))))))
 
 module _ {M : Type 1} (𝓤 : URA M) (H : Heap 𝓤) (A : Atoms 𝓤) (W : Given 𝓤 H A) (mem : Memory → SProp 𝓤) (run : Routine → Fun 𝓤) where
-  peek-fences-walks : (𝓣 : Tables 𝓤 H) → Triple 𝓤 (𝓣 .C #lines·begin-answer) (contractOf 𝓤 H A begin-answer-F.ended (begin-answer-F.clauses 𝓤 H A mem run)) → Triple 𝓤 (𝓣 .C #index·fence-at) (contractOf 𝓤 H A fence-at-F.ended (fence-at-F.clauses 𝓤 H A mem run)) → Triple 𝓤 (𝓣 .C #lines·put-record) (contractOf 𝓤 H A put-record-F.ended (put-record-F.clauses 𝓤 H A mem run)) → Triple 𝓤 (𝓣 .C #lines·end-answer) (contractOf 𝓤 H A end-answer-F.ended (end-answer-F.clauses 𝓤 H A mem run)) → Walks 𝓤 H A peek-fences-F.ended stayed (WpFn 𝓤 H (𝓣 .C) (𝓣 .Λ) code.function) (peek-fences-F.clauses 𝓤 H A mem run)
+  peek-fences-walks : (𝓣 : Tables 𝓤 H) → Triple 𝓤 (𝓣 .C #lines·begin-answer) (contractOf 𝓤 H A begin-answer-F.ended (begin-answer-F.clauses 𝓤 H A mem run)) → Triple 𝓤 (𝓣 .C #fences·fence-at) (contractOf 𝓤 H A fence-at-F.ended (fence-at-F.clauses 𝓤 H A mem run)) → Triple 𝓤 (𝓣 .C #lines·put-record) (contractOf 𝓤 H A put-record-F.ended (put-record-F.clauses 𝓤 H A mem run)) → Triple 𝓤 (𝓣 .C #lines·end-answer) (contractOf 𝓤 H A end-answer-F.ended (end-answer-F.clauses 𝓤 H A mem run)) → Walks 𝓤 H A peek-fences-F.ended stayed (WpFn 𝓤 H (𝓣 .C) (𝓣 .Λ) code.function) (peek-fences-F.clauses 𝓤 H A mem run)
   peek-fences-walks 𝓣 known-begin-answer known-fence-at known-put-record known-end-answer =
       walked 𝓤 H A peek-fences-F.ended stayed (peek-fences-F.clauses 𝓤 H A mem run) (WpFn 𝓤 H (𝓣 .C) (𝓣 .Λ) code.function) (λ κs. (slice-vals, (uint-vals w32, (uint-vals w32, tt)))) (λ κs. (shr-slice-tells (named 0) (κs .0) Fence-T.the-row, (uint-tells w32, (uint-tells w32, tt))))
       (λ κs qs bounds a g are. via 𝓤 _ (fst∗ 𝓤 _ (emp 𝓤)) (walk 𝓤 H A W mem run (κs .0) (qs .0) (a .0 .ptr .0) (a .0 .ptr .1) (a .0 .name) (a .0 .now) (a .1 .0) (a .1 .1 .0) 𝓣 (fmOf 𝓤 H (W .laws) 𝓣) known-begin-answer known-fence-at known-put-record known-end-answer (are .0 .0 .1) (are .1 .0 .1) (are .1 .1 .0 .1)))
 
-peek-fences-meets : {M : Type 1} (𝓤 : URA M) (H : Heap 𝓤) (A : Atoms 𝓤) (W : Given 𝓤 H A) (mem : Memory → SProp 𝓤) (run : Routine → Fun 𝓤) (𝓣 : Tables 𝓤 H) → Triple 𝓤 (𝓣 .C #lines·begin-answer) (contractOf 𝓤 H A begin-answer-F.ended (begin-answer-F.clauses 𝓤 H A mem run)) → Triple 𝓤 (𝓣 .C #index·fence-at) (contractOf 𝓤 H A fence-at-F.ended (fence-at-F.clauses 𝓤 H A mem run)) → Triple 𝓤 (𝓣 .C #lines·put-record) (contractOf 𝓤 H A put-record-F.ended (put-record-F.clauses 𝓤 H A mem run)) → Triple 𝓤 (𝓣 .C #lines·end-answer) (contractOf 𝓤 H A end-answer-F.ended (end-answer-F.clauses 𝓤 H A mem run)) → Meets 𝓤 H A peek-fences-F.signature (WpFn 𝓤 H (𝓣 .C) (𝓣 .Λ) code.function) (peek-fences-F.spec 𝓤 H A mem run)
+peek-fences-meets : {M : Type 1} (𝓤 : URA M) (H : Heap 𝓤) (A : Atoms 𝓤) (W : Given 𝓤 H A) (mem : Memory → SProp 𝓤) (run : Routine → Fun 𝓤) (𝓣 : Tables 𝓤 H) → Triple 𝓤 (𝓣 .C #lines·begin-answer) (contractOf 𝓤 H A begin-answer-F.ended (begin-answer-F.clauses 𝓤 H A mem run)) → Triple 𝓤 (𝓣 .C #fences·fence-at) (contractOf 𝓤 H A fence-at-F.ended (fence-at-F.clauses 𝓤 H A mem run)) → Triple 𝓤 (𝓣 .C #lines·put-record) (contractOf 𝓤 H A put-record-F.ended (put-record-F.clauses 𝓤 H A mem run)) → Triple 𝓤 (𝓣 .C #lines·end-answer) (contractOf 𝓤 H A end-answer-F.ended (end-answer-F.clauses 𝓤 H A mem run)) → Meets 𝓤 H A peek-fences-F.signature (WpFn 𝓤 H (𝓣 .C) (𝓣 .Λ) code.function) (peek-fences-F.spec 𝓤 H A mem run)
 peek-fences-meets 𝓤 H A W mem run 𝓣 known-begin-answer known-fence-at known-put-record known-end-answer =
     walk-meets 𝓤 H A peek-fences-F.ended stayed W (goes-dropped 𝓤 H A W 1 (shrSliceOf (0 ∷ []) tt (plain (λ _. Fence-T.the-row))) yes (λ κs x f. refl), (goes-dropped 𝓤 H A W 1 (plain (λ _. u32)) yes (λ κs x f. refl), (goes-dropped 𝓤 H A W 1 (plain (λ _. u32)) yes (λ κs x f. refl), tt)))
     (peek-fences-F.clauses 𝓤 H A mem run) (WpFn 𝓤 H (𝓣 .C) (𝓣 .Λ) code.function) (WpFn-mono 𝓤 H (W .laws) 𝓣 code.function) (peek-fences-walks 𝓤 H A W mem run 𝓣 known-begin-answer known-fence-at known-put-record known-end-answer)
@@ -196,6 +196,6 @@ peek-fences-spec 𝓤 H 𝓜 𝓖 𝓡 =
     (tables 𝓤 H 𝓜 𝓡 code.env .C) (tables 𝓤 H 𝓜 𝓡 code.env .Λ) #desk·peek-fences code.function (code.unfolded 𝓤 H 𝓜 𝓡)
     (peek-fences-meets 𝓤 H (𝓖 .A) (givenOf 𝓤 H 𝓜 𝓖) (𝓜 .mem) (𝓡 .run) (tablesOf 𝓤 H 𝓜 (tables 𝓤 H 𝓜 𝓡 code.env))
     (cited 𝓤 H (tripleOf 𝓤 H (𝓖 .A) begin-answer-F.signature (begin-answer-F.spec 𝓤 H (𝓖 .A) (𝓜 .mem) (𝓡 .run))) 𝓜 𝓡 code.env #lines·begin-answer begin-answer-def.routine code.calls-lines·put·begin-answer (begin-answer-thm.met 𝓤 H 𝓜 𝓖 𝓡))
-    (cited 𝓤 H (tripleOf 𝓤 H (𝓖 .A) fence-at-F.signature (fence-at-F.spec 𝓤 H (𝓖 .A) (𝓜 .mem) (𝓡 .run))) 𝓜 𝓡 code.env #index·fence-at fence-at-def.routine code.calls-index·fences·fence-at (fence-at-thm.met 𝓤 H 𝓜 𝓖 𝓡))
+    (cited 𝓤 H (tripleOf 𝓤 H (𝓖 .A) fence-at-F.signature (fence-at-F.spec 𝓤 H (𝓖 .A) (𝓜 .mem) (𝓡 .run))) 𝓜 𝓡 code.env #fences·fence-at fence-at-def.routine code.calls-fences·records·fence-at (fence-at-thm.met 𝓤 H 𝓜 𝓖 𝓡))
     (cited 𝓤 H (tripleOf 𝓤 H (𝓖 .A) put-record-F.signature (put-record-F.spec 𝓤 H (𝓖 .A) (𝓜 .mem) (𝓡 .run))) 𝓜 𝓡 code.env #lines·put-record put-record-def.routine code.calls-lines·put·put-record (put-record-thm.met 𝓤 H 𝓜 𝓖 𝓡))
     (cited 𝓤 H (tripleOf 𝓤 H (𝓖 .A) end-answer-F.signature (end-answer-F.spec 𝓤 H (𝓖 .A) (𝓜 .mem) (𝓡 .run))) 𝓜 𝓡 code.env #lines·end-answer end-answer-def.routine code.calls-lines·put·end-answer (end-answer-thm.met 𝓤 H 𝓜 𝓖 𝓡)))

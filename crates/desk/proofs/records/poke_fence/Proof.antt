@@ -45,10 +45,10 @@ use Rattle.lines.proofs.orders.Order.Laws as Order-L
 use Rattle.walks.proofs.Lend.{ref}
 use Rattle.walks.proofs.Flow.{tests, frees-all, empties, widen-32-64}
 use Rattle.walks.proofs.Calls.{contractOf, calls-mut, calls-plain-last}
-use Rattle.index.proofs.fences.put_fence as put-fence-F
-use Rattle.index.proofs.fences.put_fence.Symbol as put-fence-def
-use Rattle.index.proofs.fences.put_fence.Symbol.{name as #index·put-fence}
-use Rattle.index.proofs.fences.put_fence.Met as put-fence-thm
+use Rattle.fences.proofs.records.put_fence as put-fence-F
+use Rattle.fences.proofs.records.put_fence.Symbol as put-fence-def
+use Rattle.fences.proofs.records.put_fence.Symbol.{name as #fences·put-fence}
+use Rattle.fences.proofs.records.put_fence.Met as put-fence-thm
 use Rattle.desk.proofs.records.say_zero as say-zero-F
 use Rattle.desk.proofs.records.say_zero.Symbol as say-zero-def
 use Rattle.desk.proofs.records.say_zero.Symbol.{name as #desk·say-zero}
@@ -91,7 +91,7 @@ module _ {M : Type 1} (𝓤 : URA M) (H : Heap 𝓤) (A : Atoms 𝓤) (W : Given
       suffices ! _ (ends-at 𝓤 H A poke-fence-F.ended stayed (poke-fence-F.clauses 𝓤 H A mem run) W bound-of vunit tt (fences′, (tt, tt)) (n-fences′, (tt, tt))) $ empties ! $
       nothing ! $ move ! (1 ∷ 0 ∷ []) $ join ! $ frame ! $ nothing ! $ nothing ! $ fjoin ! $ move ! (1 ∷ 0 ∷ []) $ fjoin ! $ frame ! $ feqI ! (List Val) (vunit ∷ []) (vunit ∷ []) refl $ done !
 
-  module _ (𝓣 : Tables 𝓤 H) (fm : FmC 𝓤 H (W .laws) (𝓣 .C)) (known-put-fence : Triple 𝓤 (𝓣 .C #index·put-fence) (contractOf 𝓤 H A put-fence-F.ended (put-fence-F.clauses 𝓤 H A mem run))) (known-say-zero : Triple 𝓤 (𝓣 .C #desk·say-zero) (contractOf 𝓤 H A say-zero-F.ended (say-zero-F.clauses 𝓤 H A mem run))) (known-say-range : Triple 𝓤 (𝓣 .C #desk·say-range) (contractOf 𝓤 H A say-range-F.ended (say-range-F.clauses 𝓤 H A mem run))) where
+  module _ (𝓣 : Tables 𝓤 H) (fm : FmC 𝓤 H (W .laws) (𝓣 .C)) (known-put-fence : Triple 𝓤 (𝓣 .C #fences·put-fence) (contractOf 𝓤 H A put-fence-F.ended (put-fence-F.clauses 𝓤 H A mem run))) (known-say-zero : Triple 𝓤 (𝓣 .C #desk·say-zero) (contractOf 𝓤 H A say-zero-F.ended (say-zero-F.clauses 𝓤 H A mem run))) (known-say-range : Triple 𝓤 (𝓣 .C #desk·say-range) (contractOf 𝓤 H A say-range-F.ended (say-range-F.clauses 𝓤 H A mem run))) where
     walk : Room Fence-T.the-row (length fences) → Is Order-T.the-row order (SL.vals Order-T.the-type Order-L.the-laws order) → ent 𝓤 (onEntry 𝓤 H A poke-fence-F.signature (κ₀, tt) (q₀, tt) args-of vals-of) (WpFn 𝓤 H (𝓣 .C) (𝓣 .Λ) code.function (sliceVal (b₀, o₀) (length fences) ∷ SL.val Order-T.the-type Order-L.the-laws order ∷ []) Post)
     walk room-fences is-order =
         qed W ((‵ (flft κ₀ q₀) ⊛ ‵ ftrue) ∷ ‵ (owns (MutSlice (named 0) κ₀ Fence-T.the-row ∷ Order-T.the-row ∷ []) args-of vals-of) ∷ []) ∵ enter ! (𝓣 .C) (𝓣 .Λ) code.function (sliceVal (b₀, o₀) (length fences) ∷ SL.val Order-T.the-type Order-L.the-laws order ∷ []) _ $
@@ -106,7 +106,7 @@ module _ {M : Type 1} (𝓤 : URA M) (H : Heap 𝓤) (A : Atoms 𝓤) (W : Given
         (λ h1 on1.
         assigns ! (addr ! (from ! (fld ! refl (hop ! (look-in ! 18 (sub ! 0 refl (whole !))) (stop !))))) (from ! (stop !)) (init ! 6 refl (tt, tt)) $
         assigns ! (agg ! (and-then ! (load ! (from ! (stop !)) (look ! 6 refl)) (and-then ! (load ! (from ! (fld ! refl (stop !))) (look-in ! 18 (sub ! 1 refl (whole !)))) (no-more !)))) (from ! (stop !)) (init ! 4 refl (tt, (tt, (record { fits = room-fences .0 }, tt)))) $
-        -- index::fences::put_fence
+        -- fences::records::put_fence
         calls-mut ! fm Fence-T.the-row NoValue (plain (λ _. usize) ∷ plain (λ _. u32) ∷ plain (λ _. u32) ∷ []) (yes, (yes, (yes, tt))) (put-fence-F.clauses 𝓤 H A mem run) known-put-fence b₀ o₀ γ₀ fences (length fences) refl
         (λ κs. ((order .first), ((order .second), ((order .third), tt)))) (λ κs. (vint w64 (order .first) ∷ [], (vint w32 (order .second) ∷ [], (vint w32 (order .third) ∷ [], tt)))) (λ κs. owns-make 𝓤 H A (usize ∷ u32 ∷ u32 ∷ []) (Ises (usize ∷ u32 ∷ u32 ∷ [])) (uint-makes 𝓤 H A W w64, (uint-makes 𝓤 H A W w32, (uint-makes 𝓤 H A W w32, tt))) ((order .first), ((order .second), ((order .third), tt))) (vint w64 (order .first) ∷ [], (vint w32 (order .second) ∷ [], (vint w32 (order .third) ∷ [], tt))) ((refl, (widen-32-64 (SL.owed Order-T.the-type Order-L.the-laws order _ is-order .1 .0 .1))), ((refl, (SL.owed Order-T.the-type Order-L.the-laws order _ is-order .1 .1 .0 .1)), ((refl, (SL.owed Order-T.the-type Order-L.the-laws order _ is-order .1 .1 .1 .0 .1)), tt)))) (λ κs δ₀. tt) (λ κs δ₀. factI 𝓤 ((order .first) < length fences) (emp 𝓤) (call-1 fences order h1))
         (λ r1 fences1. fences1 ≡ set fences (order .first) (fence (order .second) (order .third))) (λ κs δ₀ r1 ws. id⊢ 𝓤 _) (λ κs δ₀. (and-then ! (load ! (from ! (stop !)) (look ! 4 refl)) (and-then ! (load ! (from ! (stop !)) (look ! 14 refl)) (and-then ! (load ! (from ! (fld ! refl (stop !))) (look-in ! 16 (sub ! 2 refl (whole !)))) (and-then ! (load ! (from ! (fld ! refl (stop !))) (look-in ! 16 (sub ! 3 refl (whole !)))) (no-more !))))))
@@ -137,12 +137,12 @@ module _ {M : Type 1} (𝓤 : URA M) (H : Heap 𝓤) (A : Atoms 𝓤) (W : Given
         by ! (exits fences refl))))))))))))))
 
 module _ {M : Type 1} (𝓤 : URA M) (H : Heap 𝓤) (A : Atoms 𝓤) (W : Given 𝓤 H A) (mem : Memory → SProp 𝓤) (run : Routine → Fun 𝓤) where
-  poke-fence-walks : (𝓣 : Tables 𝓤 H) → Triple 𝓤 (𝓣 .C #index·put-fence) (contractOf 𝓤 H A put-fence-F.ended (put-fence-F.clauses 𝓤 H A mem run)) → Triple 𝓤 (𝓣 .C #desk·say-zero) (contractOf 𝓤 H A say-zero-F.ended (say-zero-F.clauses 𝓤 H A mem run)) → Triple 𝓤 (𝓣 .C #desk·say-range) (contractOf 𝓤 H A say-range-F.ended (say-range-F.clauses 𝓤 H A mem run)) → Walks 𝓤 H A poke-fence-F.ended stayed (WpFn 𝓤 H (𝓣 .C) (𝓣 .Λ) code.function) (poke-fence-F.clauses 𝓤 H A mem run)
+  poke-fence-walks : (𝓣 : Tables 𝓤 H) → Triple 𝓤 (𝓣 .C #fences·put-fence) (contractOf 𝓤 H A put-fence-F.ended (put-fence-F.clauses 𝓤 H A mem run)) → Triple 𝓤 (𝓣 .C #desk·say-zero) (contractOf 𝓤 H A say-zero-F.ended (say-zero-F.clauses 𝓤 H A mem run)) → Triple 𝓤 (𝓣 .C #desk·say-range) (contractOf 𝓤 H A say-range-F.ended (say-range-F.clauses 𝓤 H A mem run)) → Walks 𝓤 H A poke-fence-F.ended stayed (WpFn 𝓤 H (𝓣 .C) (𝓣 .Λ) code.function) (poke-fence-F.clauses 𝓤 H A mem run)
   poke-fence-walks 𝓣 known-put-fence known-say-zero known-say-range =
       walked 𝓤 H A poke-fence-F.ended stayed (poke-fence-F.clauses 𝓤 H A mem run) (WpFn 𝓤 H (𝓣 .C) (𝓣 .Λ) code.function) (λ κs. (slice-vals, (SL.vals Order-T.the-type Order-L.the-laws, tt))) (λ κs. (mut-slice-tells (named 0) (κs .0) Fence-T.the-row, (SL.tells Order-T.the-type Order-L.the-laws, tt)))
       (λ κs qs bounds a g are. via 𝓤 _ (fst∗ 𝓤 _ (emp 𝓤)) (walk 𝓤 H A W mem run (κs .0) (qs .0) (a .0 .ptr .0) (a .0 .ptr .1) (a .0 .name) (a .0 .now) (a .1 .0) 𝓣 (fmOf 𝓤 H (W .laws) 𝓣) known-put-fence known-say-zero known-say-range (are .0 .0 .1) (are .1 .0)))
 
-poke-fence-meets : {M : Type 1} (𝓤 : URA M) (H : Heap 𝓤) (A : Atoms 𝓤) (W : Given 𝓤 H A) (mem : Memory → SProp 𝓤) (run : Routine → Fun 𝓤) (𝓣 : Tables 𝓤 H) → Triple 𝓤 (𝓣 .C #index·put-fence) (contractOf 𝓤 H A put-fence-F.ended (put-fence-F.clauses 𝓤 H A mem run)) → Triple 𝓤 (𝓣 .C #desk·say-zero) (contractOf 𝓤 H A say-zero-F.ended (say-zero-F.clauses 𝓤 H A mem run)) → Triple 𝓤 (𝓣 .C #desk·say-range) (contractOf 𝓤 H A say-range-F.ended (say-range-F.clauses 𝓤 H A mem run)) → Meets 𝓤 H A poke-fence-F.signature (WpFn 𝓤 H (𝓣 .C) (𝓣 .Λ) code.function) (poke-fence-F.spec 𝓤 H A mem run)
+poke-fence-meets : {M : Type 1} (𝓤 : URA M) (H : Heap 𝓤) (A : Atoms 𝓤) (W : Given 𝓤 H A) (mem : Memory → SProp 𝓤) (run : Routine → Fun 𝓤) (𝓣 : Tables 𝓤 H) → Triple 𝓤 (𝓣 .C #fences·put-fence) (contractOf 𝓤 H A put-fence-F.ended (put-fence-F.clauses 𝓤 H A mem run)) → Triple 𝓤 (𝓣 .C #desk·say-zero) (contractOf 𝓤 H A say-zero-F.ended (say-zero-F.clauses 𝓤 H A mem run)) → Triple 𝓤 (𝓣 .C #desk·say-range) (contractOf 𝓤 H A say-range-F.ended (say-range-F.clauses 𝓤 H A mem run)) → Meets 𝓤 H A poke-fence-F.signature (WpFn 𝓤 H (𝓣 .C) (𝓣 .Λ) code.function) (poke-fence-F.spec 𝓤 H A mem run)
 poke-fence-meets 𝓤 H A W mem run 𝓣 known-put-fence known-say-zero known-say-range =
     walk-meets 𝓤 H A poke-fence-F.ended stayed W (goes-slice 𝓤 H A W 1 0 tt (plain (λ _. Fence-T.the-row)), (goes-dropped 𝓤 H A W 1 (plain (λ _. Order-T.the-row)) yes (λ κs x f. refl), tt))
     (poke-fence-F.clauses 𝓤 H A mem run) (WpFn 𝓤 H (𝓣 .C) (𝓣 .Λ) code.function) (WpFn-mono 𝓤 H (W .laws) 𝓣 code.function) (poke-fence-walks 𝓤 H A W mem run 𝓣 known-put-fence known-say-zero known-say-range)
@@ -153,6 +153,6 @@ poke-fence-spec 𝓤 H 𝓜 𝓖 𝓡 =
     entered 𝓤 H (tripleOf 𝓤 H (𝓖 .A) poke-fence-F.signature (poke-fence-F.spec 𝓤 H (𝓖 .A) (𝓜 .mem) (𝓡 .run)))
     (tables 𝓤 H 𝓜 𝓡 code.env .C) (tables 𝓤 H 𝓜 𝓡 code.env .Λ) #desk·poke-fence code.function (code.unfolded 𝓤 H 𝓜 𝓡)
     (poke-fence-meets 𝓤 H (𝓖 .A) (givenOf 𝓤 H 𝓜 𝓖) (𝓜 .mem) (𝓡 .run) (tablesOf 𝓤 H 𝓜 (tables 𝓤 H 𝓜 𝓡 code.env))
-    (cited 𝓤 H (tripleOf 𝓤 H (𝓖 .A) put-fence-F.signature (put-fence-F.spec 𝓤 H (𝓖 .A) (𝓜 .mem) (𝓡 .run))) 𝓜 𝓡 code.env #index·put-fence put-fence-def.routine code.calls-index·fences·put-fence (put-fence-thm.met 𝓤 H 𝓜 𝓖 𝓡))
+    (cited 𝓤 H (tripleOf 𝓤 H (𝓖 .A) put-fence-F.signature (put-fence-F.spec 𝓤 H (𝓖 .A) (𝓜 .mem) (𝓡 .run))) 𝓜 𝓡 code.env #fences·put-fence put-fence-def.routine code.calls-fences·records·put-fence (put-fence-thm.met 𝓤 H 𝓜 𝓖 𝓡))
     (cited 𝓤 H (tripleOf 𝓤 H (𝓖 .A) say-zero-F.signature (say-zero-F.spec 𝓤 H (𝓖 .A) (𝓜 .mem) (𝓡 .run))) 𝓜 𝓡 code.env #desk·say-zero say-zero-def.routine code.calls-desk·records·say-zero (say-zero-thm.met 𝓤 H 𝓜 𝓖 𝓡))
     (cited 𝓤 H (tripleOf 𝓤 H (𝓖 .A) say-range-F.signature (say-range-F.spec 𝓤 H (𝓖 .A) (𝓜 .mem) (𝓡 .run))) 𝓜 𝓡 code.env #desk·say-range say-range-def.routine code.calls-desk·records·say-range (say-range-thm.met 𝓤 H 𝓜 𝓖 𝓡)))

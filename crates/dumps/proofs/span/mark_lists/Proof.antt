@@ -9,8 +9,8 @@ use borrow.Author.Needs.{needs}
 use borrow.Author.Tests.{not-true, not-false}
 use lib.ListN.{length}
 use Rattle.reads.specs.Walk.{walkTo}
-use Rattle.blocks.specs.declared.read.Reading.{Reading}
-use Rattle.blocks.specs.declared.read.Reading.the-variants.{Broken}
+use Rattle.readings.specs.declared.read.Reading.{Reading}
+use Rattle.readings.specs.declared.read.Reading.the-variants.{Broken}
 use Rattle.dumps.specs.Dump.{inLists}
 use Rattle.dumps.proofs.span.Spanning.{Spanned, Spanning, begin, keeps-length, ends, next-groups, stops-at, breaks-at}
 use Rattle.dumps.proofs.span.Reaching.{bits-small, value-broken, update-broken, Reached, read-alike}

@@ -70,10 +70,10 @@ use Rattle.steps.proofs.entry.enter_row as enter-row-F
 use Rattle.steps.proofs.entry.enter_row.Symbol as enter-row-def
 use Rattle.steps.proofs.entry.enter_row.Symbol.{name as #steps·enter-row}
 use Rattle.steps.proofs.entry.enter_row.Met as enter-row-thm
-use Rattle.index.proofs.reading.read_row as read-row-F
-use Rattle.index.proofs.reading.read_row.Symbol as read-row-def
-use Rattle.index.proofs.reading.read_row.Symbol.{name as #index·read-row}
-use Rattle.index.proofs.reading.read_row.Met as read-row-thm
+use Rattle.fences.proofs.reading.read_row as read-row-F
+use Rattle.fences.proofs.reading.read_row.Symbol as read-row-def
+use Rattle.fences.proofs.reading.read_row.Symbol.{name as #fences·read-row}
+use Rattle.fences.proofs.reading.read_row.Met as read-row-thm
 use Rattle.steps.proofs.row.value_of as value-of-F
 use Rattle.steps.proofs.row.value_of.Symbol as value-of-def
 use Rattle.steps.proofs.row.value_of.Symbol.{name as #steps·value-of}
@@ -122,7 +122,7 @@ module _ {M : Type 1} (𝓤 : URA M) (H : Heap 𝓤) (A : Atoms 𝓤) (W : Given
       suffices ! _ (ends-at 𝓤 H A value-F.ended stayed (value-F.clauses 𝓤 H A mem run) W bound-of u r (tt, (tt, (tt, (tt, tt)))) (tt, (tt, (tt, (tt, tt))))) $ says ! e $
       nothing ! $ move ! (2 ∷ 0 ∷ []) $ join ! $ move ! (1 ∷ 0 ∷ []) $ join ! $ frame ! $ nothing ! $ nothing ! $ fjoin ! $ nothing ! $ fjoin ! $ nothing ! $ fjoin ! $ nothing ! $ fjoin ! $ frame ! $ owned ! Value-T.the-row (Is Value-T.the-row) (SL.makes Value-T.the-type Value-L.the-plain 𝓤 H A) r _ is $ done !
 
-  module _ (𝓣 : Tables 𝓤 H) (fm : FmC 𝓤 H (W .laws) (𝓣 .C)) (known-enter-row : Triple 𝓤 (𝓣 .C #steps·enter-row) (contractOf 𝓤 H A enter-row-F.ended (enter-row-F.clauses 𝓤 H A mem run))) (known-read-row : Triple 𝓤 (𝓣 .C #index·read-row) (contractOf 𝓤 H A read-row-F.ended (read-row-F.clauses 𝓤 H A mem run))) (known-value-of : Triple 𝓤 (𝓣 .C #steps·value-of) (contractOf 𝓤 H A value-of-F.ended (value-of-F.clauses 𝓤 H A mem run))) (known-refused : Triple 𝓤 (𝓣 .C #steps·refused) (contractOf 𝓤 H A refused-F.ended (refused-F.clauses 𝓤 H A mem run))) where
+  module _ (𝓣 : Tables 𝓤 H) (fm : FmC 𝓤 H (W .laws) (𝓣 .C)) (known-enter-row : Triple 𝓤 (𝓣 .C #steps·enter-row) (contractOf 𝓤 H A enter-row-F.ended (enter-row-F.clauses 𝓤 H A mem run))) (known-read-row : Triple 𝓤 (𝓣 .C #fences·read-row) (contractOf 𝓤 H A read-row-F.ended (read-row-F.clauses 𝓤 H A mem run))) (known-value-of : Triple 𝓤 (𝓣 .C #steps·value-of) (contractOf 𝓤 H A value-of-F.ended (value-of-F.clauses 𝓤 H A mem run))) (known-refused : Triple 𝓤 (𝓣 .C #steps·refused) (contractOf 𝓤 H A refused-F.ended (refused-F.clauses 𝓤 H A mem run))) where
     walk : Room u32 (length words) → Room Fence-T.the-row (length fences) → Is Header-T.the-row header (SL.vals Header-T.the-type Header-L.the-laws header) → row′ < 2 ^ 32 → ent 𝓤 (onEntry 𝓤 H A value-F.signature (κ₀, (κ₁, tt)) (q₀, (q₁, tt)) args-of vals-of) (WpFn 𝓤 H (𝓣 .C) (𝓣 .Λ) code.function (sliceVal (b₀, o₀) (length words) ∷ sliceVal (b₁, o₁) (length fences) ∷ SL.val Header-T.the-type Header-L.the-laws header ∷ vint w32 row′ ∷ []) Post)
     walk room-words room-fences is-header fit-row′ =
         qed W ((‵ (flft κ₀ q₀) ⊛ (‵ (flft κ₁ q₁) ⊛ ‵ ftrue)) ∷ ‵ (owns (ShrSlice (named 0) κ₀ u32 ∷ ShrSlice (named 1) κ₁ Fence-T.the-row ∷ Header-T.the-row ∷ u32 ∷ []) args-of vals-of) ∷ []) ∵ enter ! (𝓣 .C) (𝓣 .Λ) code.function (sliceVal (b₀, o₀) (length words) ∷ sliceVal (b₁, o₁) (length fences) ∷ SL.val Header-T.the-type Header-L.the-laws header ∷ vint w32 row′ ∷ []) _ $
@@ -141,7 +141,7 @@ module _ {M : Type 1} (𝓤 : URA M) (H : Heap 𝓤) (A : Atoms 𝓤) (W : Given
               land ! (from ! (stop !)) (init ! 10 refl (EL.lawful Entry-T.the-type Entry-L.the-laws 𝓤 H A W tt .typed (Ready r1-0) _ is1 .0)) $ rewrite ! 10 (λ (w : Val). ‵ (fat fullShare (Entry-L.mir) l₈ 0 w)) (ap only (EL.tells Entry-T.the-type Entry-L.the-laws (Ready r1-0) _ is1)) refl $
               matches ! (load ! (from ! (vrt ! refl (fld ! refl (stop !)))) (look-tag ! 10 (whole !))) tt (λ on1.
               assigns ! (of-opd ! (load ! (from ! (vrt ! refl (fld ! refl (stop !)))) (look-in ! 10 (in-variant ! 0 0 refl refl (whole !))))) (from ! (stop !)) (init ! 14 refl (SL.lawful Plan-T.the-type Plan-L.the-laws 𝓤 H A W .typed r1-0 (SL.vals Plan-T.the-type Plan-L.the-laws r1-0) (EL.owed Entry-T.the-type Entry-L.the-laws (Ready r1-0) _ is1 .0) .0)) $
-              -- read_row
+              -- fences::reading::read_row
               calls-shr-shr ! fm u32 Fence-T.the-row Row-T.the-row (plain (λ _. Header-T.the-row) ∷ plain (λ _. Plan-T.the-row) ∷ plain (λ _. u32) ∷ []) (yes, (yes, (yes, tt))) (read-row-F.clauses 𝓤 H A mem run) known-read-row b₀ o₀ γ₀ words (length words) refl b₁ o₁ γ₁ fences (length fences) refl
               (λ κs. (header, (r1-0, (row′, tt)))) (λ κs. (SL.val Header-T.the-type Header-L.the-laws header ∷ [], (SL.val Plan-T.the-type Plan-L.the-laws r1-0 ∷ [], (vint w32 row′ ∷ [], tt)))) (λ κs. owns-make 𝓤 H A (Header-T.the-row ∷ Plan-T.the-row ∷ u32 ∷ []) (Ises (Header-T.the-row ∷ Plan-T.the-row ∷ u32 ∷ [])) (SL.makes Header-T.the-type Header-L.the-plain 𝓤 H A, (SL.makes Plan-T.the-type Plan-L.the-plain 𝓤 H A, (uint-makes 𝓤 H A W w32, tt))) (header, (r1-0, (row′, tt))) (SL.val Header-T.the-type Header-L.the-laws header ∷ [], (SL.val Plan-T.the-type Plan-L.the-laws r1-0 ∷ [], (vint w32 row′ ∷ [], tt))) (is-header, ((EL.owed Entry-T.the-type Entry-L.the-laws (Ready r1-0) _ is1 .0), ((refl, fit-row′), tt)))) (λ κs δ₀ δ₁. tt) (λ κs δ₀ δ₁. factI 𝓤 (Planned header r1-0 (length words) (length fences)) (emp 𝓤) (call-2 words fences header row′ r1-0 e1))
               (λ r2. r2 ≡ rowOf header (memoryOf words fences) row′) (λ κs δ₀ δ₁ r2 ws. id⊢ 𝓤 _) (λ κs δ₀ δ₁. (and-then ! (load ! (from ! (stop !)) (look ! 24 refl)) (and-then ! (load ! (from ! (stop !)) (look ! 22 refl)) (and-then ! (load ! (from ! (stop !)) (look ! 20 refl)) (and-then ! (load ! (from ! (stop !)) (look ! 14 refl)) (and-then ! (load ! (from ! (stop !)) (look ! 18 refl)) (no-more !)))))))
@@ -178,12 +178,12 @@ module _ {M : Type 1} (𝓤 : URA M) (H : Heap 𝓤) (A : Atoms 𝓤) (W : Given
         ])))))))))))))
 
 module _ {M : Type 1} (𝓤 : URA M) (H : Heap 𝓤) (A : Atoms 𝓤) (W : Given 𝓤 H A) (mem : Memory → SProp 𝓤) (run : Routine → Fun 𝓤) where
-  value-walks : (𝓣 : Tables 𝓤 H) → Triple 𝓤 (𝓣 .C #steps·enter-row) (contractOf 𝓤 H A enter-row-F.ended (enter-row-F.clauses 𝓤 H A mem run)) → Triple 𝓤 (𝓣 .C #index·read-row) (contractOf 𝓤 H A read-row-F.ended (read-row-F.clauses 𝓤 H A mem run)) → Triple 𝓤 (𝓣 .C #steps·value-of) (contractOf 𝓤 H A value-of-F.ended (value-of-F.clauses 𝓤 H A mem run)) → Triple 𝓤 (𝓣 .C #steps·refused) (contractOf 𝓤 H A refused-F.ended (refused-F.clauses 𝓤 H A mem run)) → Walks 𝓤 H A value-F.ended stayed (WpFn 𝓤 H (𝓣 .C) (𝓣 .Λ) code.function) (value-F.clauses 𝓤 H A mem run)
+  value-walks : (𝓣 : Tables 𝓤 H) → Triple 𝓤 (𝓣 .C #steps·enter-row) (contractOf 𝓤 H A enter-row-F.ended (enter-row-F.clauses 𝓤 H A mem run)) → Triple 𝓤 (𝓣 .C #fences·read-row) (contractOf 𝓤 H A read-row-F.ended (read-row-F.clauses 𝓤 H A mem run)) → Triple 𝓤 (𝓣 .C #steps·value-of) (contractOf 𝓤 H A value-of-F.ended (value-of-F.clauses 𝓤 H A mem run)) → Triple 𝓤 (𝓣 .C #steps·refused) (contractOf 𝓤 H A refused-F.ended (refused-F.clauses 𝓤 H A mem run)) → Walks 𝓤 H A value-F.ended stayed (WpFn 𝓤 H (𝓣 .C) (𝓣 .Λ) code.function) (value-F.clauses 𝓤 H A mem run)
   value-walks 𝓣 known-enter-row known-read-row known-value-of known-refused =
       walked 𝓤 H A value-F.ended stayed (value-F.clauses 𝓤 H A mem run) (WpFn 𝓤 H (𝓣 .C) (𝓣 .Λ) code.function) (λ κs. (slice-vals, (slice-vals, (SL.vals Header-T.the-type Header-L.the-laws, (uint-vals w32, tt))))) (λ κs. (shr-slice-tells (named 0) (κs .0) u32, (shr-slice-tells (named 1) (κs .1 .0) Fence-T.the-row, (SL.tells Header-T.the-type Header-L.the-laws, (uint-tells w32, tt)))))
       (λ κs qs bounds a g are. via 𝓤 _ (fst∗ 𝓤 _ (emp 𝓤)) (walk 𝓤 H A W mem run (κs .0) (κs .1 .0) (qs .0) (qs .1 .0) (a .0 .ptr .0) (a .0 .ptr .1) (a .0 .name) (a .0 .now) (a .1 .0 .ptr .0) (a .1 .0 .ptr .1) (a .1 .0 .name) (a .1 .0 .now) (a .1 .1 .0) (a .1 .1 .1 .0) 𝓣 (fmOf 𝓤 H (W .laws) 𝓣) known-enter-row known-read-row known-value-of known-refused (are .0 .0 .1) (are .1 .0 .0 .1) (are .1 .1 .0) (are .1 .1 .1 .0 .1)))
 
-value-meets : {M : Type 1} (𝓤 : URA M) (H : Heap 𝓤) (A : Atoms 𝓤) (W : Given 𝓤 H A) (mem : Memory → SProp 𝓤) (run : Routine → Fun 𝓤) (𝓣 : Tables 𝓤 H) → Triple 𝓤 (𝓣 .C #steps·enter-row) (contractOf 𝓤 H A enter-row-F.ended (enter-row-F.clauses 𝓤 H A mem run)) → Triple 𝓤 (𝓣 .C #index·read-row) (contractOf 𝓤 H A read-row-F.ended (read-row-F.clauses 𝓤 H A mem run)) → Triple 𝓤 (𝓣 .C #steps·value-of) (contractOf 𝓤 H A value-of-F.ended (value-of-F.clauses 𝓤 H A mem run)) → Triple 𝓤 (𝓣 .C #steps·refused) (contractOf 𝓤 H A refused-F.ended (refused-F.clauses 𝓤 H A mem run)) → Meets 𝓤 H A value-F.signature (WpFn 𝓤 H (𝓣 .C) (𝓣 .Λ) code.function) (value-F.spec 𝓤 H A mem run)
+value-meets : {M : Type 1} (𝓤 : URA M) (H : Heap 𝓤) (A : Atoms 𝓤) (W : Given 𝓤 H A) (mem : Memory → SProp 𝓤) (run : Routine → Fun 𝓤) (𝓣 : Tables 𝓤 H) → Triple 𝓤 (𝓣 .C #steps·enter-row) (contractOf 𝓤 H A enter-row-F.ended (enter-row-F.clauses 𝓤 H A mem run)) → Triple 𝓤 (𝓣 .C #fences·read-row) (contractOf 𝓤 H A read-row-F.ended (read-row-F.clauses 𝓤 H A mem run)) → Triple 𝓤 (𝓣 .C #steps·value-of) (contractOf 𝓤 H A value-of-F.ended (value-of-F.clauses 𝓤 H A mem run)) → Triple 𝓤 (𝓣 .C #steps·refused) (contractOf 𝓤 H A refused-F.ended (refused-F.clauses 𝓤 H A mem run)) → Meets 𝓤 H A value-F.signature (WpFn 𝓤 H (𝓣 .C) (𝓣 .Λ) code.function) (value-F.spec 𝓤 H A mem run)
 value-meets 𝓤 H A W mem run 𝓣 known-enter-row known-read-row known-value-of known-refused =
     walk-meets 𝓤 H A value-F.ended stayed W (goes-dropped 𝓤 H A W 2 (shrSliceOf (0 ∷ []) tt (plain (λ _. u32))) yes (λ κs x f. refl), (goes-dropped 𝓤 H A W 2 (shrSliceOf (1 ∷ []) tt (plain (λ _. Fence-T.the-row))) yes (λ κs x f. refl), (goes-dropped 𝓤 H A W 2 (plain (λ _. Header-T.the-row)) yes (λ κs x f. refl), (goes-dropped 𝓤 H A W 2 (plain (λ _. u32)) yes (λ κs x f. refl), tt))))
     (value-F.clauses 𝓤 H A mem run) (WpFn 𝓤 H (𝓣 .C) (𝓣 .Λ) code.function) (WpFn-mono 𝓤 H (W .laws) 𝓣 code.function) (value-walks 𝓤 H A W mem run 𝓣 known-enter-row known-read-row known-value-of known-refused)
@@ -195,6 +195,6 @@ value-spec 𝓤 H 𝓜 𝓖 𝓡 =
     (tables 𝓤 H 𝓜 𝓡 code.env .C) (tables 𝓤 H 𝓜 𝓡 code.env .Λ) #index·value code.function (code.unfolded 𝓤 H 𝓜 𝓡)
     (value-meets 𝓤 H (𝓖 .A) (givenOf 𝓤 H 𝓜 𝓖) (𝓜 .mem) (𝓡 .run) (tablesOf 𝓤 H 𝓜 (tables 𝓤 H 𝓜 𝓡 code.env))
     (cited 𝓤 H (tripleOf 𝓤 H (𝓖 .A) enter-row-F.signature (enter-row-F.spec 𝓤 H (𝓖 .A) (𝓜 .mem) (𝓡 .run))) 𝓜 𝓡 code.env #steps·enter-row enter-row-def.routine code.calls-steps·entry·enter-row (enter-row-thm.met 𝓤 H 𝓜 𝓖 𝓡))
-    (cited 𝓤 H (tripleOf 𝓤 H (𝓖 .A) read-row-F.signature (read-row-F.spec 𝓤 H (𝓖 .A) (𝓜 .mem) (𝓡 .run))) 𝓜 𝓡 code.env #index·read-row read-row-def.routine code.calls-index·reading·read-row (read-row-thm.met 𝓤 H 𝓜 𝓖 𝓡))
+    (cited 𝓤 H (tripleOf 𝓤 H (𝓖 .A) read-row-F.signature (read-row-F.spec 𝓤 H (𝓖 .A) (𝓜 .mem) (𝓡 .run))) 𝓜 𝓡 code.env #fences·read-row read-row-def.routine code.calls-fences·reading·read-row (read-row-thm.met 𝓤 H 𝓜 𝓖 𝓡))
     (cited 𝓤 H (tripleOf 𝓤 H (𝓖 .A) value-of-F.signature (value-of-F.spec 𝓤 H (𝓖 .A) (𝓜 .mem) (𝓡 .run))) 𝓜 𝓡 code.env #steps·value-of value-of-def.routine code.calls-steps·row·value-of (value-of-thm.met 𝓤 H 𝓜 𝓖 𝓡))
     (cited 𝓤 H (tripleOf 𝓤 H (𝓖 .A) refused-F.signature (refused-F.spec 𝓤 H (𝓖 .A) (𝓜 .mem) (𝓡 .run))) 𝓜 𝓡 code.env #steps·refused refused-def.routine code.calls-steps·row·refused (refused-thm.met 𝓤 H 𝓜 𝓖 𝓡)))

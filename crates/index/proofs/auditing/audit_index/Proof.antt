@@ -64,10 +64,10 @@ use Rattle.walks.proofs.Lend.{ref}
 use Rattle.walks.proofs.Flow.{tests, frees-all, big-lit}
 use Rattle.walks.proofs.Local.{repeats, lend-array, back-array}
 use Rattle.walks.proofs.Calls.{contractOf, calls-shr-shr-mut}
-use Rattle.index.proofs.auditing.audit_values as audit-values-F
-use Rattle.index.proofs.auditing.audit_values.Symbol as audit-values-def
-use Rattle.index.proofs.auditing.audit_values.Symbol.{name as #index·audit-values}
-use Rattle.index.proofs.auditing.audit_values.Met as audit-values-thm
+use Rattle.fences.proofs.checking.audit_values as audit-values-F
+use Rattle.fences.proofs.checking.audit_values.Symbol as audit-values-def
+use Rattle.fences.proofs.checking.audit_values.Symbol.{name as #fences·audit-values}
+use Rattle.fences.proofs.checking.audit_values.Met as audit-values-thm
 use Rattle.index.proofs.auditing.audit_index.Key.{name as #index·audit-index}
 use Rattle.index.proofs.auditing.audit_index as audit-index-F
 use Rattle.index.proofs.auditing.audit_index.Statement as stated
@@ -118,7 +118,7 @@ module _ {M : Type 1} (𝓤 : URA M) (H : Heap 𝓤) (A : Atoms 𝓤) (W : Given
       suffices ! _ (ends-at 𝓤 H A audit-index-F.ended stayed (audit-index-F.clauses 𝓤 H A mem run) W bound-of u r (tt, (tt, (tt, (tt, tt)))) (tt, (tt, (tt, (tt, tt))))) $ says ! e $
       nothing ! $ move ! (2 ∷ 0 ∷ []) $ join ! $ move ! (1 ∷ 0 ∷ []) $ join ! $ frame ! $ nothing ! $ nothing ! $ fjoin ! $ nothing ! $ fjoin ! $ nothing ! $ fjoin ! $ nothing ! $ fjoin ! $ frame ! $ owned ! Answer-T.the-row (Is Answer-T.the-row) (EL.makes Answer-T.the-type Answer-L.the-plain 𝓤 H A) r _ is $ done !
 
-  module _ (𝓣 : Tables 𝓤 H) (fm : FmC 𝓤 H (W .laws) (𝓣 .C)) (known-audit-values : Triple 𝓤 (𝓣 .C #index·audit-values) (contractOf 𝓤 H A audit-values-F.ended (audit-values-F.clauses 𝓤 H A mem run))) where
+  module _ (𝓣 : Tables 𝓤 H) (fm : FmC 𝓤 H (W .laws) (𝓣 .C)) (known-audit-values : Triple 𝓤 (𝓣 .C #fences·audit-values) (contractOf 𝓤 H A audit-values-F.ended (audit-values-F.clauses 𝓤 H A mem run))) where
     walk : Room u32 (length words) → Room Fence-T.the-row (length fences) → Is Header-T.the-row header (SL.vals Header-T.the-type Header-L.the-laws header) → Is Plan-T.the-row plan (SL.vals Plan-T.the-type Plan-L.the-laws plan) → Planned header plan (length words) (length fences) → ent 𝓤 (onEntry 𝓤 H A audit-index-F.signature (κ₀, (κ₁, tt)) (q₀, (q₁, tt)) args-of vals-of) (WpFn 𝓤 H (𝓣 .C) (𝓣 .Λ) code.function (sliceVal (b₀, o₀) (length words) ∷ sliceVal (b₁, o₁) (length fences) ∷ SL.val Header-T.the-type Header-L.the-laws header ∷ SL.val Plan-T.the-type Plan-L.the-laws plan ∷ []) Post)
     walk room-words room-fences is-header is-plan req =
         qed W ((‵ (flft κ₀ q₀) ⊛ (‵ (flft κ₁ q₁) ⊛ ‵ ftrue)) ∷ ‵ (owns (ShrSlice (named 0) κ₀ u32 ∷ ShrSlice (named 1) κ₁ Fence-T.the-row ∷ Header-T.the-row ∷ Plan-T.the-row ∷ []) args-of vals-of) ∷ []) ∵ enter ! (𝓣 .C) (𝓣 .Λ) code.function (sliceVal (b₀, o₀) (length words) ∷ sliceVal (b₁, o₁) (length fences) ∷ SL.val Header-T.the-type Header-L.the-laws header ∷ SL.val Plan-T.the-type Plan-L.the-laws plan ∷ []) _ $
@@ -133,7 +133,7 @@ module _ {M : Type 1} (𝓤 : URA M) (H : Heap 𝓤) (A : Atoms 𝓤) (W : Given
         assigns ! (addr ! (from ! (stop !))) (from ! (stop !)) (init ! 12 refl (tt, tt)) $
         assigns ! (agg ! (and-then ! (load ! (from ! (stop !)) (look ! 12 refl)) (and-then ! (big-lit ! (record { fits = lit< tt })) (no-more !)))) (from ! (stop !)) (init ! 10 refl (tt, (tt, (record { fits = lit< tt }, tt)))) $
         move ! (2 ∷ 3 ∷ 4 ∷ 5 ∷ 0 ∷ 1 ∷ []) $
-        -- audit_values
+        -- fences::checking::audit_values
         calls-shr-shr-mut ! fm u32 Fence-T.the-row u32 Boolean (plain (λ _. Header-T.the-row) ∷ plain (λ _. Plan-T.the-row) ∷ []) (yes, (yes, tt)) (audit-values-F.clauses 𝓤 H A mem run) known-audit-values b₀ o₀ γ₀ words (length words) refl b₁ o₁ γ₁ fences (length fences) refl l₅ 0 δ′₅ taken 4096 n-taken
         (λ κs. (header, (plan, tt))) (λ κs. (SL.val Header-T.the-type Header-L.the-laws header ∷ [], (SL.val Plan-T.the-type Plan-L.the-laws plan ∷ [], tt))) (λ κs. owns-make 𝓤 H A (Header-T.the-row ∷ Plan-T.the-row ∷ []) (Ises (Header-T.the-row ∷ Plan-T.the-row ∷ [])) (SL.makes Header-T.the-type Header-L.the-plain 𝓤 H A, (SL.makes Plan-T.the-type Plan-L.the-plain 𝓤 H A, tt)) (header, (plan, tt)) (SL.val Header-T.the-type Header-L.the-laws header ∷ [], (SL.val Plan-T.the-type Plan-L.the-laws plan ∷ [], tt)) (is-header, (is-plan, tt))) (λ κs δ₀ δ₁ δ₂. tt) (λ κs δ₀ δ₁ δ₂. factI 𝓤 (Planned header plan (length words) (length fences) × (taken ≡ replicate 4096 0)) (emp 𝓤) (call-1 words fences header plan req))
         (λ r1 taken1. r1 ≡ isSound header (memoryOf words fences)) (λ κs δ₀ δ₁ δ₂ r1 ws. id⊢ 𝓤 _) (λ κs δ₀ δ₁ δ₂. (and-then ! (load ! (from ! (stop !)) (look ! 24 refl)) (and-then ! (load ! (from ! (stop !)) (look ! 22 refl)) (and-then ! (load ! (from ! (stop !)) (look ! 10 refl)) (and-then ! (load ! (from ! (stop !)) (look ! 20 refl)) (and-then ! (load ! (from ! (stop !)) (look ! 18 refl)) (no-more !)))))))
@@ -164,12 +164,12 @@ module _ {M : Type 1} (𝓤 : URA M) (H : Heap 𝓤) (A : Atoms 𝓤) (W : Given
         by ! (exits (EL.val Answer-T.the-type Answer-L.the-laws (Done 0)) (Done 0) (exit-2 words fences header plan req r1 e1 h1) made-3)))))))))))))))))
 
 module _ {M : Type 1} (𝓤 : URA M) (H : Heap 𝓤) (A : Atoms 𝓤) (W : Given 𝓤 H A) (mem : Memory → SProp 𝓤) (run : Routine → Fun 𝓤) where
-  audit-index-walks : (𝓣 : Tables 𝓤 H) → Triple 𝓤 (𝓣 .C #index·audit-values) (contractOf 𝓤 H A audit-values-F.ended (audit-values-F.clauses 𝓤 H A mem run)) → Walks 𝓤 H A audit-index-F.ended stayed (WpFn 𝓤 H (𝓣 .C) (𝓣 .Λ) code.function) (audit-index-F.clauses 𝓤 H A mem run)
+  audit-index-walks : (𝓣 : Tables 𝓤 H) → Triple 𝓤 (𝓣 .C #fences·audit-values) (contractOf 𝓤 H A audit-values-F.ended (audit-values-F.clauses 𝓤 H A mem run)) → Walks 𝓤 H A audit-index-F.ended stayed (WpFn 𝓤 H (𝓣 .C) (𝓣 .Λ) code.function) (audit-index-F.clauses 𝓤 H A mem run)
   audit-index-walks 𝓣 known-audit-values =
       walked 𝓤 H A audit-index-F.ended stayed (audit-index-F.clauses 𝓤 H A mem run) (WpFn 𝓤 H (𝓣 .C) (𝓣 .Λ) code.function) (λ κs. (slice-vals, (slice-vals, (SL.vals Header-T.the-type Header-L.the-laws, (SL.vals Plan-T.the-type Plan-L.the-laws, tt))))) (λ κs. (shr-slice-tells (named 0) (κs .0) u32, (shr-slice-tells (named 1) (κs .1 .0) Fence-T.the-row, (SL.tells Header-T.the-type Header-L.the-laws, (SL.tells Plan-T.the-type Plan-L.the-laws, tt)))))
       (λ κs qs bounds a g are. needs 𝓤 _ _ (walk 𝓤 H A W mem run (κs .0) (κs .1 .0) (qs .0) (qs .1 .0) (a .0 .ptr .0) (a .0 .ptr .1) (a .0 .name) (a .0 .now) (a .1 .0 .ptr .0) (a .1 .0 .ptr .1) (a .1 .0 .name) (a .1 .0 .now) (a .1 .1 .0) (a .1 .1 .1 .0) 𝓣 (fmOf 𝓤 H (W .laws) 𝓣) known-audit-values (are .0 .0 .1) (are .1 .0 .0 .1) (are .1 .1 .0) (are .1 .1 .1 .0)))
 
-audit-index-meets : {M : Type 1} (𝓤 : URA M) (H : Heap 𝓤) (A : Atoms 𝓤) (W : Given 𝓤 H A) (mem : Memory → SProp 𝓤) (run : Routine → Fun 𝓤) (𝓣 : Tables 𝓤 H) → Triple 𝓤 (𝓣 .C #index·audit-values) (contractOf 𝓤 H A audit-values-F.ended (audit-values-F.clauses 𝓤 H A mem run)) → Meets 𝓤 H A audit-index-F.signature (WpFn 𝓤 H (𝓣 .C) (𝓣 .Λ) code.function) (audit-index-F.spec 𝓤 H A mem run)
+audit-index-meets : {M : Type 1} (𝓤 : URA M) (H : Heap 𝓤) (A : Atoms 𝓤) (W : Given 𝓤 H A) (mem : Memory → SProp 𝓤) (run : Routine → Fun 𝓤) (𝓣 : Tables 𝓤 H) → Triple 𝓤 (𝓣 .C #fences·audit-values) (contractOf 𝓤 H A audit-values-F.ended (audit-values-F.clauses 𝓤 H A mem run)) → Meets 𝓤 H A audit-index-F.signature (WpFn 𝓤 H (𝓣 .C) (𝓣 .Λ) code.function) (audit-index-F.spec 𝓤 H A mem run)
 audit-index-meets 𝓤 H A W mem run 𝓣 known-audit-values =
     walk-meets 𝓤 H A audit-index-F.ended stayed W (goes-dropped 𝓤 H A W 2 (shrSliceOf (0 ∷ []) tt (plain (λ _. u32))) yes (λ κs x f. refl), (goes-dropped 𝓤 H A W 2 (shrSliceOf (1 ∷ []) tt (plain (λ _. Fence-T.the-row))) yes (λ κs x f. refl), (goes-dropped 𝓤 H A W 2 (plain (λ _. Header-T.the-row)) yes (λ κs x f. refl), (goes-dropped 𝓤 H A W 2 (plain (λ _. Plan-T.the-row)) yes (λ κs x f. refl), tt))))
     (audit-index-F.clauses 𝓤 H A mem run) (WpFn 𝓤 H (𝓣 .C) (𝓣 .Λ) code.function) (WpFn-mono 𝓤 H (W .laws) 𝓣 code.function) (audit-index-walks 𝓤 H A W mem run 𝓣 known-audit-values)
@@ -180,4 +180,4 @@ audit-index-spec 𝓤 H 𝓜 𝓖 𝓡 =
     entered 𝓤 H (tripleOf 𝓤 H (𝓖 .A) audit-index-F.signature (audit-index-F.spec 𝓤 H (𝓖 .A) (𝓜 .mem) (𝓡 .run)))
     (tables 𝓤 H 𝓜 𝓡 code.env .C) (tables 𝓤 H 𝓜 𝓡 code.env .Λ) #index·audit-index code.function (code.unfolded 𝓤 H 𝓜 𝓡)
     (audit-index-meets 𝓤 H (𝓖 .A) (givenOf 𝓤 H 𝓜 𝓖) (𝓜 .mem) (𝓡 .run) (tablesOf 𝓤 H 𝓜 (tables 𝓤 H 𝓜 𝓡 code.env))
-    (cited 𝓤 H (tripleOf 𝓤 H (𝓖 .A) audit-values-F.signature (audit-values-F.spec 𝓤 H (𝓖 .A) (𝓜 .mem) (𝓡 .run))) 𝓜 𝓡 code.env #index·audit-values audit-values-def.routine code.calls-index·auditing·audit-values (audit-values-thm.met 𝓤 H 𝓜 𝓖 𝓡)))
+    (cited 𝓤 H (tripleOf 𝓤 H (𝓖 .A) audit-values-F.signature (audit-values-F.spec 𝓤 H (𝓖 .A) (𝓜 .mem) (𝓡 .run))) 𝓜 𝓡 code.env #fences·audit-values audit-values-def.routine code.calls-fences·checking·audit-values (audit-values-thm.met 𝓤 H 𝓜 𝓖 𝓡)))

@@ -40,14 +40,14 @@ use denote.Triple.Spec.{Meets, tripleOf}
 use denote.Triple.Statement.{Triple}
 use denote.Triple.Table.{entered, cited}
 use denote.Triple.Walked.{says, Stays, stay-slice, stay-dropped, walkOf, Walks, ends-at, walked, goes-slice, goes-dropped, walk-meets}
-use Rattle.values.specs.Alter.{isWhole, flipWords, flipFences}
-use Rattle.steps.specs.Plans.{Fenced}
 use Rattle.steps.specs.Memory.{memoryOf}
 use Rattle.steps.specs.Outcomes.{Leaves, refusedBy, doneWith}
 use Rattle.index.specs.Calls.{insertAfter}
 use Rattle.index.proofs.changing.InsertExits.{insert-stops, insert-planned, spare-row, insert-asks, insert-damaged, insert-refused, insert-done}
 use Rattle.steps.specs.Entry.{enteredInsert, Planned, grown}
 use Rattle.steps.specs.Reading.{rowOf, isFree}
+use Rattle.values.specs.Alter.{isWhole, flipWords, flipFences}
+use Rattle.steps.specs.Plans.{Fenced}
 use Rattle.steps.specs.declared.header.Changed.{Changed}
 use Rattle.steps.proofs.header.Changed as Changed-T
 use Rattle.steps.proofs.header.Changed.Laws as Changed-L
@@ -76,10 +76,10 @@ use Rattle.steps.proofs.entry.enter_insert as enter-insert-F
 use Rattle.steps.proofs.entry.enter_insert.Symbol as enter-insert-def
 use Rattle.steps.proofs.entry.enter_insert.Symbol.{name as #steps·enter-insert}
 use Rattle.steps.proofs.entry.enter_insert.Met as enter-insert-thm
-use Rattle.index.proofs.reading.read_row as read-row-F
-use Rattle.index.proofs.reading.read_row.Symbol as read-row-def
-use Rattle.index.proofs.reading.read_row.Symbol.{name as #index·read-row}
-use Rattle.index.proofs.reading.read_row.Met as read-row-thm
+use Rattle.fences.proofs.reading.read_row as read-row-F
+use Rattle.fences.proofs.reading.read_row.Symbol as read-row-def
+use Rattle.fences.proofs.reading.read_row.Symbol.{name as #fences·read-row}
+use Rattle.fences.proofs.reading.read_row.Met as read-row-thm
 use Rattle.steps.proofs.row.is_free as is-free-F
 use Rattle.steps.proofs.row.is_free.Symbol as is-free-def
 use Rattle.steps.proofs.row.is_free.Symbol.{name as #steps·is-free}
@@ -88,10 +88,10 @@ use Rattle.steps.proofs.header.refuse as refuse-F
 use Rattle.steps.proofs.header.refuse.Symbol as refuse-def
 use Rattle.steps.proofs.header.refuse.Symbol.{name as #steps·refuse}
 use Rattle.steps.proofs.header.refuse.Met as refuse-thm
-use Rattle.index.proofs.changing.flip_fenced as flip-fenced-F
-use Rattle.index.proofs.changing.flip_fenced.Symbol as flip-fenced-def
-use Rattle.index.proofs.changing.flip_fenced.Symbol.{name as #index·flip-fenced}
-use Rattle.index.proofs.changing.flip_fenced.Met as flip-fenced-thm
+use Rattle.fences.proofs.flipping.flip_fenced as flip-fenced-F
+use Rattle.fences.proofs.flipping.flip_fenced.Symbol as flip-fenced-def
+use Rattle.fences.proofs.flipping.flip_fenced.Symbol.{name as #fences·flip-fenced}
+use Rattle.fences.proofs.flipping.flip_fenced.Met as flip-fenced-thm
 use Rattle.steps.proofs.header.grow as grow-F
 use Rattle.steps.proofs.header.grow.Symbol as grow-def
 use Rattle.steps.proofs.header.grow.Symbol.{name as #steps·grow}
@@ -148,7 +148,7 @@ module _ {M : Type 1} (𝓤 : URA M) (H : Heap 𝓤) (A : Atoms 𝓤) (W : Given
       suffices ! _ (ends-at 𝓤 H A insert-F.ended stayed (insert-F.clauses 𝓤 H A mem run) W bound-of u r (words′, (fences′, (tt, (tt, tt)))) (n-words′, (n-fences′, (tt, (tt, tt))))) $ says ! e $
       nothing ! $ move ! (3 ∷ 0 ∷ []) $ join ! $ move ! (1 ∷ 0 ∷ []) $ join ! $ frame ! $ nothing ! $ nothing ! $ fjoin ! $ nothing ! $ fjoin ! $ move ! (2 ∷ 0 ∷ []) $ fjoin ! $ move ! (1 ∷ 0 ∷ []) $ fjoin ! $ frame ! $ owned ! Changed-T.the-row (Is Changed-T.the-row) (SL.makes Changed-T.the-type Changed-L.the-plain 𝓤 H A) r _ is $ done !
 
-  module _ (𝓣 : Tables 𝓤 H) (fm : FmC 𝓤 H (W .laws) (𝓣 .C)) (known-enter-insert : Triple 𝓤 (𝓣 .C #steps·enter-insert) (contractOf 𝓤 H A enter-insert-F.ended (enter-insert-F.clauses 𝓤 H A mem run))) (known-read-row : Triple 𝓤 (𝓣 .C #index·read-row) (contractOf 𝓤 H A read-row-F.ended (read-row-F.clauses 𝓤 H A mem run))) (known-is-free : Triple 𝓤 (𝓣 .C #steps·is-free) (contractOf 𝓤 H A is-free-F.ended (is-free-F.clauses 𝓤 H A mem run))) (known-refuse : Triple 𝓤 (𝓣 .C #steps·refuse) (contractOf 𝓤 H A refuse-F.ended (refuse-F.clauses 𝓤 H A mem run))) (known-flip-fenced : Triple 𝓤 (𝓣 .C #index·flip-fenced) (contractOf 𝓤 H A flip-fenced-F.ended (flip-fenced-F.clauses 𝓤 H A mem run))) (known-grow : Triple 𝓤 (𝓣 .C #steps·grow) (contractOf 𝓤 H A grow-F.ended (grow-F.clauses 𝓤 H A mem run))) where
+  module _ (𝓣 : Tables 𝓤 H) (fm : FmC 𝓤 H (W .laws) (𝓣 .C)) (known-enter-insert : Triple 𝓤 (𝓣 .C #steps·enter-insert) (contractOf 𝓤 H A enter-insert-F.ended (enter-insert-F.clauses 𝓤 H A mem run))) (known-read-row : Triple 𝓤 (𝓣 .C #fences·read-row) (contractOf 𝓤 H A read-row-F.ended (read-row-F.clauses 𝓤 H A mem run))) (known-is-free : Triple 𝓤 (𝓣 .C #steps·is-free) (contractOf 𝓤 H A is-free-F.ended (is-free-F.clauses 𝓤 H A mem run))) (known-refuse : Triple 𝓤 (𝓣 .C #steps·refuse) (contractOf 𝓤 H A refuse-F.ended (refuse-F.clauses 𝓤 H A mem run))) (known-flip-fenced : Triple 𝓤 (𝓣 .C #fences·flip-fenced) (contractOf 𝓤 H A flip-fenced-F.ended (flip-fenced-F.clauses 𝓤 H A mem run))) (known-grow : Triple 𝓤 (𝓣 .C #steps·grow) (contractOf 𝓤 H A grow-F.ended (grow-F.clauses 𝓤 H A mem run))) where
     walk : Room u32 (length words) → Room Fence-T.the-row (length fences) → Is Header-T.the-row header (SL.vals Header-T.the-type Header-L.the-laws header) → value < 2 ^ 32 → ent 𝓤 (onEntry 𝓤 H A insert-F.signature (κ₀, (κ₁, tt)) (q₀, (q₁, tt)) args-of vals-of) (WpFn 𝓤 H (𝓣 .C) (𝓣 .Λ) code.function (sliceVal (b₀, o₀) (length words) ∷ sliceVal (b₁, o₁) (length fences) ∷ SL.val Header-T.the-type Header-L.the-laws header ∷ vint w32 value ∷ []) Post)
     walk room-words room-fences is-header fit-value =
         qed W ((‵ (flft κ₀ q₀) ⊛ (‵ (flft κ₁ q₁) ⊛ ‵ ftrue)) ∷ ‵ (owns (MutSlice (named 0) κ₀ u32 ∷ MutSlice (named 1) κ₁ Fence-T.the-row ∷ Header-T.the-row ∷ u32 ∷ []) args-of vals-of) ∷ []) ∵ enter ! (𝓣 .C) (𝓣 .Λ) code.function (sliceVal (b₀, o₀) (length words) ∷ sliceVal (b₁, o₁) (length fences) ∷ SL.val Header-T.the-type Header-L.the-laws header ∷ vint w32 value ∷ []) _ $
@@ -171,7 +171,7 @@ module _ {M : Type 1} (𝓤 : URA M) (H : Heap 𝓤) (A : Atoms 𝓤) (W : Given
               assigns ! (agg ! (and-then ! (load ! (from ! (stop !)) (look ! 26 refl)) (and-then ! (load ! (from ! (fld ! refl (stop !))) (look-in ! 48 (sub ! 1 refl (whole !)))) (no-more !)))) (from ! (stop !)) (init ! 24 refl (tt, (tt, (record { fits = room-words .0 }, tt)))) $
               assigns ! (addr ! (from ! (fld ! refl (hop ! (look-in ! 46 (sub ! 0 refl (whole !))) (stop !))))) (from ! (stop !)) (init ! 22 refl (tt, tt)) $
               assigns ! (agg ! (and-then ! (load ! (from ! (stop !)) (look ! 22 refl)) (and-then ! (load ! (from ! (fld ! refl (stop !))) (look-in ! 46 (sub ! 1 refl (whole !)))) (no-more !)))) (from ! (stop !)) (init ! 20 refl (tt, (tt, (record { fits = room-fences .0 }, tt)))) $
-              -- read_row
+              -- fences::reading::read_row
               calls-view-view ! fm u32 Fence-T.the-row Row-T.the-row (plain (λ _. Header-T.the-row) ∷ plain (λ _. Plan-T.the-row) ∷ plain (λ _. u32) ∷ []) (yes, (yes, (yes, tt))) (read-row-F.clauses 𝓤 H A mem run) known-read-row b₀ o₀ γ₀ words (length words) refl b₁ o₁ γ₁ fences (length fences) refl
               (λ κs. (header, (r1-0, ((header .issued), tt)))) (λ κs. (SL.val Header-T.the-type Header-L.the-laws header ∷ [], (SL.val Plan-T.the-type Plan-L.the-laws r1-0 ∷ [], (vint w32 (header .issued) ∷ [], tt)))) (λ κs. owns-make 𝓤 H A (Header-T.the-row ∷ Plan-T.the-row ∷ u32 ∷ []) (Ises (Header-T.the-row ∷ Plan-T.the-row ∷ u32 ∷ [])) (SL.makes Header-T.the-type Header-L.the-plain 𝓤 H A, (SL.makes Plan-T.the-type Plan-L.the-plain 𝓤 H A, (uint-makes 𝓤 H A W w32, tt))) (header, (r1-0, ((header .issued), tt))) (SL.val Header-T.the-type Header-L.the-laws header ∷ [], (SL.val Plan-T.the-type Plan-L.the-laws r1-0 ∷ [], (vint w32 (header .issued) ∷ [], tt))) (is-header, ((EL.owed Entry-T.the-type Entry-L.the-laws (Ready r1-0) _ is1 .0), ((refl, (SL.owed Header-T.the-type Header-L.the-laws header _ is-header .1 .0 .1)), tt)))) (λ κs δ₀ δ₁. tt) (λ κs δ₀ δ₁. factI 𝓤 (Planned header r1-0 (length words) (length fences)) (emp 𝓤) (call-2 words fences header value r1-0 e1))
               (λ r2. r2 ≡ rowOf header (memoryOf words fences) (header .issued)) (λ κs δ₀ δ₁ r2 ws. id⊢ 𝓤 _) (λ κs δ₀ δ₁. (and-then ! (load ! (from ! (stop !)) (look ! 24 refl)) (and-then ! (load ! (from ! (stop !)) (look ! 20 refl)) (and-then ! (load ! (from ! (stop !)) (look ! 44 refl)) (and-then ! (load ! (from ! (stop !)) (look ! 38 refl)) (and-then ! (load ! (from ! (fld ! refl (stop !))) (look-in ! 44 (sub ! 1 refl (whole !)))) (no-more !)))))))
@@ -203,7 +203,7 @@ module _ {M : Type 1} (𝓤 : URA M) (H : Heap 𝓤) (A : Atoms 𝓤) (W : Given
               assigns ! (agg ! (and-then ! (load ! (from ! (stop !)) (look ! 12 refl)) (and-then ! (load ! (from ! (fld ! refl (stop !))) (look-in ! 48 (sub ! 1 refl (whole !)))) (no-more !)))) (from ! (stop !)) (init ! 10 refl (tt, (tt, (record { fits = room-words .0 }, tt)))) $
               assigns ! (addr ! (from ! (fld ! refl (hop ! (look-in ! 46 (sub ! 0 refl (whole !))) (stop !))))) (from ! (stop !)) (init ! 8 refl (tt, tt)) $
               assigns ! (agg ! (and-then ! (load ! (from ! (stop !)) (look ! 8 refl)) (and-then ! (load ! (from ! (fld ! refl (stop !))) (look-in ! 46 (sub ! 1 refl (whole !)))) (no-more !)))) (from ! (stop !)) (init ! 6 refl (tt, (tt, (record { fits = room-fences .0 }, tt)))) $
-              -- flip_fenced
+              -- fences::flipping::flip_fenced
               calls-mut-mut ! fm u32 Fence-T.the-row Boolean (plain (λ _. Plan-T.the-row) ∷ plain (λ _. u32) ∷ plain (λ _. u32) ∷ []) (yes, (yes, (yes, tt))) (flip-fenced-F.clauses 𝓤 H A mem run) known-flip-fenced b₀ o₀ γ₀ words (length words) refl b₁ o₁ γ₁ fences (length fences) refl
               (λ κs. (r1-0, (value, ((header .issued), tt)))) (λ κs. (SL.val Plan-T.the-type Plan-L.the-laws r1-0 ∷ [], (vint w32 value ∷ [], (vint w32 (header .issued) ∷ [], tt)))) (λ κs. owns-make 𝓤 H A (Plan-T.the-row ∷ u32 ∷ u32 ∷ []) (Ises (Plan-T.the-row ∷ u32 ∷ u32 ∷ [])) (SL.makes Plan-T.the-type Plan-L.the-plain 𝓤 H A, (uint-makes 𝓤 H A W w32, (uint-makes 𝓤 H A W w32, tt))) (r1-0, (value, ((header .issued), tt))) (SL.val Plan-T.the-type Plan-L.the-laws r1-0 ∷ [], (vint w32 value ∷ [], (vint w32 (header .issued) ∷ [], tt))) ((EL.owed Entry-T.the-type Entry-L.the-laws (Ready r1-0) _ is1 .0), ((refl, fit-value), ((refl, (SL.owed Header-T.the-type Header-L.the-laws header _ is-header .1 .0 .1)), tt)))) (λ κs δ₀ δ₁. tt) (λ κs δ₀ δ₁. factI 𝓤 (Fenced r1-0 (length words) (length fences) value × ((header .issued) < r1-0 .shape .rows)) (emp 𝓤) (call-5 words fences header value r1-0 e1))
               (λ r5 words5 fences5. (r5 ≡ isWhole r1-0 words value) × (words5 ≡ flipWords r1-0 words value (header .issued)) × (fences5 ≡ flipFences r1-0 words fences value (header .issued))) (λ κs δ₀ δ₁ r5 ws. id⊢ 𝓤 _) (λ κs δ₀ δ₁. (and-then ! (load ! (from ! (stop !)) (look ! 10 refl)) (and-then ! (load ! (from ! (stop !)) (look ! 6 refl)) (and-then ! (load ! (from ! (stop !)) (look ! 38 refl)) (and-then ! (load ! (from ! (stop !)) (look ! 42 refl)) (and-then ! (load ! (from ! (fld ! refl (stop !))) (look-in ! 44 (sub ! 1 refl (whole !)))) (no-more !)))))))
@@ -254,12 +254,12 @@ module _ {M : Type 1} (𝓤 : URA M) (H : Heap 𝓤) (A : Atoms 𝓤) (W : Given
         ])))))))))))))))))))))))))
 
 module _ {M : Type 1} (𝓤 : URA M) (H : Heap 𝓤) (A : Atoms 𝓤) (W : Given 𝓤 H A) (mem : Memory → SProp 𝓤) (run : Routine → Fun 𝓤) where
-  insert-walks : (𝓣 : Tables 𝓤 H) → Triple 𝓤 (𝓣 .C #steps·enter-insert) (contractOf 𝓤 H A enter-insert-F.ended (enter-insert-F.clauses 𝓤 H A mem run)) → Triple 𝓤 (𝓣 .C #index·read-row) (contractOf 𝓤 H A read-row-F.ended (read-row-F.clauses 𝓤 H A mem run)) → Triple 𝓤 (𝓣 .C #steps·is-free) (contractOf 𝓤 H A is-free-F.ended (is-free-F.clauses 𝓤 H A mem run)) → Triple 𝓤 (𝓣 .C #steps·refuse) (contractOf 𝓤 H A refuse-F.ended (refuse-F.clauses 𝓤 H A mem run)) → Triple 𝓤 (𝓣 .C #index·flip-fenced) (contractOf 𝓤 H A flip-fenced-F.ended (flip-fenced-F.clauses 𝓤 H A mem run)) → Triple 𝓤 (𝓣 .C #steps·grow) (contractOf 𝓤 H A grow-F.ended (grow-F.clauses 𝓤 H A mem run)) → Walks 𝓤 H A insert-F.ended stayed (WpFn 𝓤 H (𝓣 .C) (𝓣 .Λ) code.function) (insert-F.clauses 𝓤 H A mem run)
+  insert-walks : (𝓣 : Tables 𝓤 H) → Triple 𝓤 (𝓣 .C #steps·enter-insert) (contractOf 𝓤 H A enter-insert-F.ended (enter-insert-F.clauses 𝓤 H A mem run)) → Triple 𝓤 (𝓣 .C #fences·read-row) (contractOf 𝓤 H A read-row-F.ended (read-row-F.clauses 𝓤 H A mem run)) → Triple 𝓤 (𝓣 .C #steps·is-free) (contractOf 𝓤 H A is-free-F.ended (is-free-F.clauses 𝓤 H A mem run)) → Triple 𝓤 (𝓣 .C #steps·refuse) (contractOf 𝓤 H A refuse-F.ended (refuse-F.clauses 𝓤 H A mem run)) → Triple 𝓤 (𝓣 .C #fences·flip-fenced) (contractOf 𝓤 H A flip-fenced-F.ended (flip-fenced-F.clauses 𝓤 H A mem run)) → Triple 𝓤 (𝓣 .C #steps·grow) (contractOf 𝓤 H A grow-F.ended (grow-F.clauses 𝓤 H A mem run)) → Walks 𝓤 H A insert-F.ended stayed (WpFn 𝓤 H (𝓣 .C) (𝓣 .Λ) code.function) (insert-F.clauses 𝓤 H A mem run)
   insert-walks 𝓣 known-enter-insert known-read-row known-is-free known-refuse known-flip-fenced known-grow =
       walked 𝓤 H A insert-F.ended stayed (insert-F.clauses 𝓤 H A mem run) (WpFn 𝓤 H (𝓣 .C) (𝓣 .Λ) code.function) (λ κs. (slice-vals, (slice-vals, (SL.vals Header-T.the-type Header-L.the-laws, (uint-vals w32, tt))))) (λ κs. (mut-slice-tells (named 0) (κs .0) u32, (mut-slice-tells (named 1) (κs .1 .0) Fence-T.the-row, (SL.tells Header-T.the-type Header-L.the-laws, (uint-tells w32, tt)))))
       (λ κs qs bounds a g are. via 𝓤 _ (fst∗ 𝓤 _ (emp 𝓤)) (walk 𝓤 H A W mem run (κs .0) (κs .1 .0) (qs .0) (qs .1 .0) (a .0 .ptr .0) (a .0 .ptr .1) (a .0 .name) (a .0 .now) (a .1 .0 .ptr .0) (a .1 .0 .ptr .1) (a .1 .0 .name) (a .1 .0 .now) (a .1 .1 .0) (a .1 .1 .1 .0) 𝓣 (fmOf 𝓤 H (W .laws) 𝓣) known-enter-insert known-read-row known-is-free known-refuse known-flip-fenced known-grow (are .0 .0 .1) (are .1 .0 .0 .1) (are .1 .1 .0) (are .1 .1 .1 .0 .1)))
 
-insert-meets : {M : Type 1} (𝓤 : URA M) (H : Heap 𝓤) (A : Atoms 𝓤) (W : Given 𝓤 H A) (mem : Memory → SProp 𝓤) (run : Routine → Fun 𝓤) (𝓣 : Tables 𝓤 H) → Triple 𝓤 (𝓣 .C #steps·enter-insert) (contractOf 𝓤 H A enter-insert-F.ended (enter-insert-F.clauses 𝓤 H A mem run)) → Triple 𝓤 (𝓣 .C #index·read-row) (contractOf 𝓤 H A read-row-F.ended (read-row-F.clauses 𝓤 H A mem run)) → Triple 𝓤 (𝓣 .C #steps·is-free) (contractOf 𝓤 H A is-free-F.ended (is-free-F.clauses 𝓤 H A mem run)) → Triple 𝓤 (𝓣 .C #steps·refuse) (contractOf 𝓤 H A refuse-F.ended (refuse-F.clauses 𝓤 H A mem run)) → Triple 𝓤 (𝓣 .C #index·flip-fenced) (contractOf 𝓤 H A flip-fenced-F.ended (flip-fenced-F.clauses 𝓤 H A mem run)) → Triple 𝓤 (𝓣 .C #steps·grow) (contractOf 𝓤 H A grow-F.ended (grow-F.clauses 𝓤 H A mem run)) → Meets 𝓤 H A insert-F.signature (WpFn 𝓤 H (𝓣 .C) (𝓣 .Λ) code.function) (insert-F.spec 𝓤 H A mem run)
+insert-meets : {M : Type 1} (𝓤 : URA M) (H : Heap 𝓤) (A : Atoms 𝓤) (W : Given 𝓤 H A) (mem : Memory → SProp 𝓤) (run : Routine → Fun 𝓤) (𝓣 : Tables 𝓤 H) → Triple 𝓤 (𝓣 .C #steps·enter-insert) (contractOf 𝓤 H A enter-insert-F.ended (enter-insert-F.clauses 𝓤 H A mem run)) → Triple 𝓤 (𝓣 .C #fences·read-row) (contractOf 𝓤 H A read-row-F.ended (read-row-F.clauses 𝓤 H A mem run)) → Triple 𝓤 (𝓣 .C #steps·is-free) (contractOf 𝓤 H A is-free-F.ended (is-free-F.clauses 𝓤 H A mem run)) → Triple 𝓤 (𝓣 .C #steps·refuse) (contractOf 𝓤 H A refuse-F.ended (refuse-F.clauses 𝓤 H A mem run)) → Triple 𝓤 (𝓣 .C #fences·flip-fenced) (contractOf 𝓤 H A flip-fenced-F.ended (flip-fenced-F.clauses 𝓤 H A mem run)) → Triple 𝓤 (𝓣 .C #steps·grow) (contractOf 𝓤 H A grow-F.ended (grow-F.clauses 𝓤 H A mem run)) → Meets 𝓤 H A insert-F.signature (WpFn 𝓤 H (𝓣 .C) (𝓣 .Λ) code.function) (insert-F.spec 𝓤 H A mem run)
 insert-meets 𝓤 H A W mem run 𝓣 known-enter-insert known-read-row known-is-free known-refuse known-flip-fenced known-grow =
     walk-meets 𝓤 H A insert-F.ended stayed W (goes-slice 𝓤 H A W 2 0 tt (plain (λ _. u32)), (goes-slice 𝓤 H A W 2 1 tt (plain (λ _. Fence-T.the-row)), (goes-dropped 𝓤 H A W 2 (plain (λ _. Header-T.the-row)) yes (λ κs x f. refl), (goes-dropped 𝓤 H A W 2 (plain (λ _. u32)) yes (λ κs x f. refl), tt))))
     (insert-F.clauses 𝓤 H A mem run) (WpFn 𝓤 H (𝓣 .C) (𝓣 .Λ) code.function) (WpFn-mono 𝓤 H (W .laws) 𝓣 code.function) (insert-walks 𝓤 H A W mem run 𝓣 known-enter-insert known-read-row known-is-free known-refuse known-flip-fenced known-grow)
@@ -271,8 +271,8 @@ insert-spec 𝓤 H 𝓜 𝓖 𝓡 =
     (tables 𝓤 H 𝓜 𝓡 code.env .C) (tables 𝓤 H 𝓜 𝓡 code.env .Λ) #index·insert code.function (code.unfolded 𝓤 H 𝓜 𝓡)
     (insert-meets 𝓤 H (𝓖 .A) (givenOf 𝓤 H 𝓜 𝓖) (𝓜 .mem) (𝓡 .run) (tablesOf 𝓤 H 𝓜 (tables 𝓤 H 𝓜 𝓡 code.env))
     (cited 𝓤 H (tripleOf 𝓤 H (𝓖 .A) enter-insert-F.signature (enter-insert-F.spec 𝓤 H (𝓖 .A) (𝓜 .mem) (𝓡 .run))) 𝓜 𝓡 code.env #steps·enter-insert enter-insert-def.routine code.calls-steps·entry·enter-insert (enter-insert-thm.met 𝓤 H 𝓜 𝓖 𝓡))
-    (cited 𝓤 H (tripleOf 𝓤 H (𝓖 .A) read-row-F.signature (read-row-F.spec 𝓤 H (𝓖 .A) (𝓜 .mem) (𝓡 .run))) 𝓜 𝓡 code.env #index·read-row read-row-def.routine code.calls-index·reading·read-row (read-row-thm.met 𝓤 H 𝓜 𝓖 𝓡))
+    (cited 𝓤 H (tripleOf 𝓤 H (𝓖 .A) read-row-F.signature (read-row-F.spec 𝓤 H (𝓖 .A) (𝓜 .mem) (𝓡 .run))) 𝓜 𝓡 code.env #fences·read-row read-row-def.routine code.calls-fences·reading·read-row (read-row-thm.met 𝓤 H 𝓜 𝓖 𝓡))
     (cited 𝓤 H (tripleOf 𝓤 H (𝓖 .A) is-free-F.signature (is-free-F.spec 𝓤 H (𝓖 .A) (𝓜 .mem) (𝓡 .run))) 𝓜 𝓡 code.env #steps·is-free is-free-def.routine code.calls-steps·row·is-free (is-free-thm.met 𝓤 H 𝓜 𝓖 𝓡))
     (cited 𝓤 H (tripleOf 𝓤 H (𝓖 .A) refuse-F.signature (refuse-F.spec 𝓤 H (𝓖 .A) (𝓜 .mem) (𝓡 .run))) 𝓜 𝓡 code.env #steps·refuse refuse-def.routine code.calls-steps·header·refuse (refuse-thm.met 𝓤 H 𝓜 𝓖 𝓡))
-    (cited 𝓤 H (tripleOf 𝓤 H (𝓖 .A) flip-fenced-F.signature (flip-fenced-F.spec 𝓤 H (𝓖 .A) (𝓜 .mem) (𝓡 .run))) 𝓜 𝓡 code.env #index·flip-fenced flip-fenced-def.routine code.calls-index·changing·flip-fenced (flip-fenced-thm.met 𝓤 H 𝓜 𝓖 𝓡))
+    (cited 𝓤 H (tripleOf 𝓤 H (𝓖 .A) flip-fenced-F.signature (flip-fenced-F.spec 𝓤 H (𝓖 .A) (𝓜 .mem) (𝓡 .run))) 𝓜 𝓡 code.env #fences·flip-fenced flip-fenced-def.routine code.calls-fences·flipping·flip-fenced (flip-fenced-thm.met 𝓤 H 𝓜 𝓖 𝓡))
     (cited 𝓤 H (tripleOf 𝓤 H (𝓖 .A) grow-F.signature (grow-F.spec 𝓤 H (𝓖 .A) (𝓜 .mem) (𝓡 .run))) 𝓜 𝓡 code.env #steps·grow grow-def.routine code.calls-steps·header·grow (grow-thm.met 𝓤 H 𝓜 𝓖 𝓡)))

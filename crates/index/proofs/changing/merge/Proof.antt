@@ -38,16 +38,16 @@ use denote.Triple.Spec.{Meets, tripleOf}
 use denote.Triple.Statement.{Triple}
 use denote.Triple.Table.{entered, cited}
 use denote.Triple.Walked.{says, Stays, stay-slice, stay-dropped, walkOf, Walks, ends-at, walked, goes-slice, goes-dropped, walk-meets}
-use Rattle.blocks.specs.Block.{valueLength}
-use Rattle.steps.specs.Plans.{Fenced, blockIn, Suits}
 use Rattle.steps.specs.Memory.{memoryOf}
 use Rattle.steps.specs.Outcomes.{Leaves, refusedBy, doneWith}
 use Rattle.index.specs.Calls.{mergeAfter}
 use Rattle.values.proofs.alter.Answers.{merge-never-keeps}
 use Rattle.index.proofs.changing.MergeExits.{merge-stops, merge-fenced, merge-refused, merge-done}
-use Rattle.index.proofs.changing.Steps.{merge-asks}
+use Rattle.fences.proofs.flipping.Steps.{merge-asks}
 use Rattle.steps.specs.Entry.{enteredValue}
 use Rattle.values.specs.Alter.{mergeAlter, mergeWords, renewedFences}
+use Rattle.steps.specs.Plans.{Suits, Fenced, blockIn}
+use Rattle.blocks.specs.Block.{valueLength}
 use Rattle.values.proofs.alter.Alter as Alter-T
 use Rattle.values.proofs.alter.Alter.Laws as Alter-L
 use Rattle.values.specs.declared.alter.Alter.the-variants.{Fails, Keeps, Renews}
@@ -84,10 +84,10 @@ use Rattle.steps.proofs.header.refuse as refuse-F
 use Rattle.steps.proofs.header.refuse.Symbol as refuse-def
 use Rattle.steps.proofs.header.refuse.Symbol.{name as #steps·refuse}
 use Rattle.steps.proofs.header.refuse.Met as refuse-thm
-use Rattle.index.proofs.fences.renew as renew-F
-use Rattle.index.proofs.fences.renew.Symbol as renew-def
-use Rattle.index.proofs.fences.renew.Symbol.{name as #index·renew}
-use Rattle.index.proofs.fences.renew.Met as renew-thm
+use Rattle.fences.proofs.records.renew as renew-F
+use Rattle.fences.proofs.records.renew.Symbol as renew-def
+use Rattle.fences.proofs.records.renew.Symbol.{name as #fences·renew}
+use Rattle.fences.proofs.records.renew.Met as renew-thm
 use Rattle.steps.proofs.header.done as done-F
 use Rattle.steps.proofs.header.done.Symbol as done-def
 use Rattle.steps.proofs.header.done.Symbol.{name as #steps·done}
@@ -141,7 +141,7 @@ module _ {M : Type 1} (𝓤 : URA M) (H : Heap 𝓤) (A : Atoms 𝓤) (W : Given
       suffices ! _ (ends-at 𝓤 H A index-changing-merge-F.ended stayed (index-changing-merge-F.clauses 𝓤 H A mem run) W bound-of u r (words′, (fences′, (tt, (tt, tt)))) (n-words′, (n-fences′, (tt, (tt, tt))))) $ says ! e $
       nothing ! $ move ! (3 ∷ 0 ∷ []) $ join ! $ move ! (1 ∷ 0 ∷ []) $ join ! $ frame ! $ nothing ! $ nothing ! $ fjoin ! $ nothing ! $ fjoin ! $ move ! (2 ∷ 0 ∷ []) $ fjoin ! $ move ! (1 ∷ 0 ∷ []) $ fjoin ! $ frame ! $ owned ! Changed-T.the-row (Is Changed-T.the-row) (SL.makes Changed-T.the-type Changed-L.the-plain 𝓤 H A) r _ is $ done !
 
-  module _ (𝓣 : Tables 𝓤 H) (fm : FmC 𝓤 H (W .laws) (𝓣 .C)) (known-enter-value : Triple 𝓤 (𝓣 .C #steps·enter-value) (contractOf 𝓤 H A enter-value-F.ended (enter-value-F.clauses 𝓤 H A mem run))) (known-merge-value : Triple 𝓤 (𝓣 .C #values·merge-value) (contractOf 𝓤 H A merge-value-F.ended (merge-value-F.clauses 𝓤 H A mem run))) (known-refuse : Triple 𝓤 (𝓣 .C #steps·refuse) (contractOf 𝓤 H A refuse-F.ended (refuse-F.clauses 𝓤 H A mem run))) (known-renew : Triple 𝓤 (𝓣 .C #index·renew) (contractOf 𝓤 H A renew-F.ended (renew-F.clauses 𝓤 H A mem run))) (known-done : Triple 𝓤 (𝓣 .C #steps·done) (contractOf 𝓤 H A done-F.ended (done-F.clauses 𝓤 H A mem run))) where
+  module _ (𝓣 : Tables 𝓤 H) (fm : FmC 𝓤 H (W .laws) (𝓣 .C)) (known-enter-value : Triple 𝓤 (𝓣 .C #steps·enter-value) (contractOf 𝓤 H A enter-value-F.ended (enter-value-F.clauses 𝓤 H A mem run))) (known-merge-value : Triple 𝓤 (𝓣 .C #values·merge-value) (contractOf 𝓤 H A merge-value-F.ended (merge-value-F.clauses 𝓤 H A mem run))) (known-refuse : Triple 𝓤 (𝓣 .C #steps·refuse) (contractOf 𝓤 H A refuse-F.ended (refuse-F.clauses 𝓤 H A mem run))) (known-renew : Triple 𝓤 (𝓣 .C #fences·renew) (contractOf 𝓤 H A renew-F.ended (renew-F.clauses 𝓤 H A mem run))) (known-done : Triple 𝓤 (𝓣 .C #steps·done) (contractOf 𝓤 H A done-F.ended (done-F.clauses 𝓤 H A mem run))) where
     walk : Room u32 (length words) → Room Fence-T.the-row (length fences) → Is Header-T.the-row header (SL.vals Header-T.the-type Header-L.the-laws header) → value < 2 ^ 32 → ent 𝓤 (onEntry 𝓤 H A index-changing-merge-F.signature (κ₀, (κ₁, tt)) (q₀, (q₁, tt)) args-of vals-of) (WpFn 𝓤 H (𝓣 .C) (𝓣 .Λ) code.function (sliceVal (b₀, o₀) (length words) ∷ sliceVal (b₁, o₁) (length fences) ∷ SL.val Header-T.the-type Header-L.the-laws header ∷ vint w32 value ∷ []) Post)
     walk room-words room-fences is-header fit-value =
         qed W ((‵ (flft κ₀ q₀) ⊛ (‵ (flft κ₁ q₁) ⊛ ‵ ftrue)) ∷ ‵ (owns (MutSlice (named 0) κ₀ u32 ∷ MutSlice (named 1) κ₁ Fence-T.the-row ∷ Header-T.the-row ∷ u32 ∷ []) args-of vals-of) ∷ []) ∵ enter ! (𝓣 .C) (𝓣 .Λ) code.function (sliceVal (b₀, o₀) (length words) ∷ sliceVal (b₁, o₁) (length fences) ∷ SL.val Header-T.the-type Header-L.the-laws header ∷ vint w32 value ∷ []) _ $
@@ -203,7 +203,7 @@ module _ {M : Type 1} (𝓤 : URA M) (H : Heap 𝓤) (A : Atoms 𝓤) (W : Given
                     assigns ! (agg ! (and-then ! (load ! (from ! (stop !)) (look ! 10 refl)) (and-then ! (load ! (from ! (fld ! refl (stop !))) (look-in ! 40 (sub ! 1 refl (whole !)))) (no-more !)))) (from ! (stop !)) (init ! 8 refl (tt, (tt, (record { fits = room-words .0 }, tt)))) $
                     assigns ! (addr ! (from ! (fld ! refl (hop ! (look-in ! 38 (sub ! 0 refl (whole !))) (stop !))))) (from ! (stop !)) (init ! 6 refl (tt, tt)) $
                     assigns ! (agg ! (and-then ! (load ! (from ! (stop !)) (look ! 6 refl)) (and-then ! (load ! (from ! (fld ! refl (stop !))) (look-in ! 38 (sub ! 1 refl (whole !)))) (no-more !)))) (from ! (stop !)) (init ! 4 refl (tt, (tt, (record { fits = room-fences .0 }, tt)))) $
-                    -- renew
+                    -- fences::records::renew
                     calls-view-mut ! fm u32 Fence-T.the-row NoValue (plain (λ _. Plan-T.the-row) ∷ plain (λ _. u32) ∷ []) (yes, (yes, tt)) (renew-F.clauses 𝓤 H A mem run) known-renew b₀ o₀ γ₀ words2 (length words) n-words2 b₁ o₁ γ₁ fences (length fences) refl
                     (λ κs. (r1-0, (value, tt))) (λ κs. (SL.val Plan-T.the-type Plan-L.the-laws r1-0 ∷ [], (vint w32 value ∷ [], tt))) (λ κs. owns-make 𝓤 H A (Plan-T.the-row ∷ u32 ∷ []) (Ises (Plan-T.the-row ∷ u32 ∷ [])) (SL.makes Plan-T.the-type Plan-L.the-plain 𝓤 H A, (uint-makes 𝓤 H A W w32, tt)) (r1-0, (value, tt)) (SL.val Plan-T.the-type Plan-L.the-laws r1-0 ∷ [], (vint w32 value ∷ [], tt)) ((EL.owed Entry-T.the-type Entry-L.the-laws (Ready r1-0) _ is1 .0), ((refl, fit-value), tt))) (λ κs δ₀ δ₁. tt) (λ κs δ₀ δ₁. factI 𝓤 (Fenced r1-0 (length words2) (length fences) value × (valueLength (blockIn r1-0 words2 value) ≤ r1-0 .shape .groups)) (emp 𝓤) (call-5 words fences header value r1-0 e1 words2 n-words2 e2))
                     (λ r5 fences5. fences5 ≡ renewedFences r1-0 words2 fences value) (λ κs δ₀ δ₁ r5 ws. id⊢ 𝓤 _) (λ κs δ₀ δ₁. (and-then ! (load ! (from ! (stop !)) (look ! 8 refl)) (and-then ! (load ! (from ! (stop !)) (look ! 4 refl)) (and-then ! (load ! (from ! (stop !)) (look ! 30 refl)) (and-then ! (load ! (from ! (stop !)) (look ! 34 refl)) (no-more !))))))
@@ -239,12 +239,12 @@ module _ {M : Type 1} (𝓤 : URA M) (H : Heap 𝓤) (A : Atoms 𝓤) (W : Given
         ])))))))))))))))))))))
 
 module _ {M : Type 1} (𝓤 : URA M) (H : Heap 𝓤) (A : Atoms 𝓤) (W : Given 𝓤 H A) (mem : Memory → SProp 𝓤) (run : Routine → Fun 𝓤) where
-  merge-walks : (𝓣 : Tables 𝓤 H) → Triple 𝓤 (𝓣 .C #steps·enter-value) (contractOf 𝓤 H A enter-value-F.ended (enter-value-F.clauses 𝓤 H A mem run)) → Triple 𝓤 (𝓣 .C #values·merge-value) (contractOf 𝓤 H A merge-value-F.ended (merge-value-F.clauses 𝓤 H A mem run)) → Triple 𝓤 (𝓣 .C #steps·refuse) (contractOf 𝓤 H A refuse-F.ended (refuse-F.clauses 𝓤 H A mem run)) → Triple 𝓤 (𝓣 .C #index·renew) (contractOf 𝓤 H A renew-F.ended (renew-F.clauses 𝓤 H A mem run)) → Triple 𝓤 (𝓣 .C #steps·done) (contractOf 𝓤 H A done-F.ended (done-F.clauses 𝓤 H A mem run)) → Walks 𝓤 H A index-changing-merge-F.ended stayed (WpFn 𝓤 H (𝓣 .C) (𝓣 .Λ) code.function) (index-changing-merge-F.clauses 𝓤 H A mem run)
+  merge-walks : (𝓣 : Tables 𝓤 H) → Triple 𝓤 (𝓣 .C #steps·enter-value) (contractOf 𝓤 H A enter-value-F.ended (enter-value-F.clauses 𝓤 H A mem run)) → Triple 𝓤 (𝓣 .C #values·merge-value) (contractOf 𝓤 H A merge-value-F.ended (merge-value-F.clauses 𝓤 H A mem run)) → Triple 𝓤 (𝓣 .C #steps·refuse) (contractOf 𝓤 H A refuse-F.ended (refuse-F.clauses 𝓤 H A mem run)) → Triple 𝓤 (𝓣 .C #fences·renew) (contractOf 𝓤 H A renew-F.ended (renew-F.clauses 𝓤 H A mem run)) → Triple 𝓤 (𝓣 .C #steps·done) (contractOf 𝓤 H A done-F.ended (done-F.clauses 𝓤 H A mem run)) → Walks 𝓤 H A index-changing-merge-F.ended stayed (WpFn 𝓤 H (𝓣 .C) (𝓣 .Λ) code.function) (index-changing-merge-F.clauses 𝓤 H A mem run)
   merge-walks 𝓣 known-enter-value known-merge-value known-refuse known-renew known-done =
       walked 𝓤 H A index-changing-merge-F.ended stayed (index-changing-merge-F.clauses 𝓤 H A mem run) (WpFn 𝓤 H (𝓣 .C) (𝓣 .Λ) code.function) (λ κs. (slice-vals, (slice-vals, (SL.vals Header-T.the-type Header-L.the-laws, (uint-vals w32, tt))))) (λ κs. (mut-slice-tells (named 0) (κs .0) u32, (mut-slice-tells (named 1) (κs .1 .0) Fence-T.the-row, (SL.tells Header-T.the-type Header-L.the-laws, (uint-tells w32, tt)))))
       (λ κs qs bounds a g are. via 𝓤 _ (fst∗ 𝓤 _ (emp 𝓤)) (walk 𝓤 H A W mem run (κs .0) (κs .1 .0) (qs .0) (qs .1 .0) (a .0 .ptr .0) (a .0 .ptr .1) (a .0 .name) (a .0 .now) (a .1 .0 .ptr .0) (a .1 .0 .ptr .1) (a .1 .0 .name) (a .1 .0 .now) (a .1 .1 .0) (a .1 .1 .1 .0) 𝓣 (fmOf 𝓤 H (W .laws) 𝓣) known-enter-value known-merge-value known-refuse known-renew known-done (are .0 .0 .1) (are .1 .0 .0 .1) (are .1 .1 .0) (are .1 .1 .1 .0 .1)))
 
-merge-meets : {M : Type 1} (𝓤 : URA M) (H : Heap 𝓤) (A : Atoms 𝓤) (W : Given 𝓤 H A) (mem : Memory → SProp 𝓤) (run : Routine → Fun 𝓤) (𝓣 : Tables 𝓤 H) → Triple 𝓤 (𝓣 .C #steps·enter-value) (contractOf 𝓤 H A enter-value-F.ended (enter-value-F.clauses 𝓤 H A mem run)) → Triple 𝓤 (𝓣 .C #values·merge-value) (contractOf 𝓤 H A merge-value-F.ended (merge-value-F.clauses 𝓤 H A mem run)) → Triple 𝓤 (𝓣 .C #steps·refuse) (contractOf 𝓤 H A refuse-F.ended (refuse-F.clauses 𝓤 H A mem run)) → Triple 𝓤 (𝓣 .C #index·renew) (contractOf 𝓤 H A renew-F.ended (renew-F.clauses 𝓤 H A mem run)) → Triple 𝓤 (𝓣 .C #steps·done) (contractOf 𝓤 H A done-F.ended (done-F.clauses 𝓤 H A mem run)) → Meets 𝓤 H A index-changing-merge-F.signature (WpFn 𝓤 H (𝓣 .C) (𝓣 .Λ) code.function) (index-changing-merge-F.spec 𝓤 H A mem run)
+merge-meets : {M : Type 1} (𝓤 : URA M) (H : Heap 𝓤) (A : Atoms 𝓤) (W : Given 𝓤 H A) (mem : Memory → SProp 𝓤) (run : Routine → Fun 𝓤) (𝓣 : Tables 𝓤 H) → Triple 𝓤 (𝓣 .C #steps·enter-value) (contractOf 𝓤 H A enter-value-F.ended (enter-value-F.clauses 𝓤 H A mem run)) → Triple 𝓤 (𝓣 .C #values·merge-value) (contractOf 𝓤 H A merge-value-F.ended (merge-value-F.clauses 𝓤 H A mem run)) → Triple 𝓤 (𝓣 .C #steps·refuse) (contractOf 𝓤 H A refuse-F.ended (refuse-F.clauses 𝓤 H A mem run)) → Triple 𝓤 (𝓣 .C #fences·renew) (contractOf 𝓤 H A renew-F.ended (renew-F.clauses 𝓤 H A mem run)) → Triple 𝓤 (𝓣 .C #steps·done) (contractOf 𝓤 H A done-F.ended (done-F.clauses 𝓤 H A mem run)) → Meets 𝓤 H A index-changing-merge-F.signature (WpFn 𝓤 H (𝓣 .C) (𝓣 .Λ) code.function) (index-changing-merge-F.spec 𝓤 H A mem run)
 merge-meets 𝓤 H A W mem run 𝓣 known-enter-value known-merge-value known-refuse known-renew known-done =
     walk-meets 𝓤 H A index-changing-merge-F.ended stayed W (goes-slice 𝓤 H A W 2 0 tt (plain (λ _. u32)), (goes-slice 𝓤 H A W 2 1 tt (plain (λ _. Fence-T.the-row)), (goes-dropped 𝓤 H A W 2 (plain (λ _. Header-T.the-row)) yes (λ κs x f. refl), (goes-dropped 𝓤 H A W 2 (plain (λ _. u32)) yes (λ κs x f. refl), tt))))
     (index-changing-merge-F.clauses 𝓤 H A mem run) (WpFn 𝓤 H (𝓣 .C) (𝓣 .Λ) code.function) (WpFn-mono 𝓤 H (W .laws) 𝓣 code.function) (merge-walks 𝓤 H A W mem run 𝓣 known-enter-value known-merge-value known-refuse known-renew known-done)
@@ -258,5 +258,5 @@ merge-spec 𝓤 H 𝓜 𝓖 𝓡 =
     (cited 𝓤 H (tripleOf 𝓤 H (𝓖 .A) enter-value-F.signature (enter-value-F.spec 𝓤 H (𝓖 .A) (𝓜 .mem) (𝓡 .run))) 𝓜 𝓡 code.env #steps·enter-value enter-value-def.routine code.calls-steps·entry·enter-value (enter-value-thm.met 𝓤 H 𝓜 𝓖 𝓡))
     (cited 𝓤 H (tripleOf 𝓤 H (𝓖 .A) merge-value-F.signature (merge-value-F.spec 𝓤 H (𝓖 .A) (𝓜 .mem) (𝓡 .run))) 𝓜 𝓡 code.env #values·merge-value merge-value-def.routine code.calls-values·alter·merge-value (merge-value-thm.met 𝓤 H 𝓜 𝓖 𝓡))
     (cited 𝓤 H (tripleOf 𝓤 H (𝓖 .A) refuse-F.signature (refuse-F.spec 𝓤 H (𝓖 .A) (𝓜 .mem) (𝓡 .run))) 𝓜 𝓡 code.env #steps·refuse refuse-def.routine code.calls-steps·header·refuse (refuse-thm.met 𝓤 H 𝓜 𝓖 𝓡))
-    (cited 𝓤 H (tripleOf 𝓤 H (𝓖 .A) renew-F.signature (renew-F.spec 𝓤 H (𝓖 .A) (𝓜 .mem) (𝓡 .run))) 𝓜 𝓡 code.env #index·renew renew-def.routine code.calls-index·fences·renew (renew-thm.met 𝓤 H 𝓜 𝓖 𝓡))
+    (cited 𝓤 H (tripleOf 𝓤 H (𝓖 .A) renew-F.signature (renew-F.spec 𝓤 H (𝓖 .A) (𝓜 .mem) (𝓡 .run))) 𝓜 𝓡 code.env #fences·renew renew-def.routine code.calls-fences·records·renew (renew-thm.met 𝓤 H 𝓜 𝓖 𝓡))
     (cited 𝓤 H (tripleOf 𝓤 H (𝓖 .A) done-F.signature (done-F.spec 𝓤 H (𝓖 .A) (𝓜 .mem) (𝓡 .run))) 𝓜 𝓡 code.env #steps·done done-def.routine code.calls-steps·header·done (done-thm.met 𝓤 H 𝓜 𝓖 𝓡)))

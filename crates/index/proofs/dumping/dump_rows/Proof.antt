@@ -42,11 +42,11 @@ use denote.Triple.Table.{entered, cited}
 use denote.Triple.Walked.{says, needs, Stays, stay-slice, stay-dropped, walkOf, Walks, ends-at, walked, goes-slice, goes-dropped, walk-meets}
 use Rattle.answers.specs.Outcome.{Gives}
 use Rattle.index.specs.Calls.{dumpOutcome}
-use Rattle.dumps.specs.Dumping.{valuesHold, markedValues, rowsGiven}
 use Rattle.steps.specs.Entry.{Planned}
 use Rattle.steps.specs.Memory.{memoryOf}
 use Rattle.index.proofs.dumping.Exits.{dump-damaged, dump-done}
-use Rattle.index.proofs.dumping.Turns.{count-asks}
+use Rattle.fences.proofs.marking.Turns.{count-asks}
+use Rattle.dumps.specs.Dumping.{valuesHold, markedValues, rowsGiven}
 use Rattle.answers.specs.declared.Answer.{Answer}
 use Rattle.answers.proofs.Answer as Answer-T
 use Rattle.answers.proofs.Answer.Laws as Answer-L
@@ -66,10 +66,10 @@ use Rattle.walks.proofs.Lend.{ref}
 use Rattle.walks.proofs.Flow.{told-enum, tests, frees-all, big-lit}
 use Rattle.walks.proofs.Local.{repeats, lend-array, back-array}
 use Rattle.walks.proofs.Calls.{contractOf, calls-shr-shr-mut, calls-view-mut}
-use Rattle.index.proofs.dumping.mark_values as mark-values-F
-use Rattle.index.proofs.dumping.mark_values.Symbol as mark-values-def
-use Rattle.index.proofs.dumping.mark_values.Symbol.{name as #index·mark-values}
-use Rattle.index.proofs.dumping.mark_values.Met as mark-values-thm
+use Rattle.fences.proofs.marking.mark_values as mark-values-F
+use Rattle.fences.proofs.marking.mark_values.Symbol as mark-values-def
+use Rattle.fences.proofs.marking.mark_values.Symbol.{name as #fences·mark-values}
+use Rattle.fences.proofs.marking.mark_values.Met as mark-values-thm
 use Rattle.dumps.proofs.dump.give_rows as give-rows-F
 use Rattle.dumps.proofs.dump.give_rows.Symbol as give-rows-def
 use Rattle.dumps.proofs.dump.give_rows.Symbol.{name as #dumps·give-rows}
@@ -127,7 +127,7 @@ module _ {M : Type 1} (𝓤 : URA M) (H : Heap 𝓤) (A : Atoms 𝓤) (W : Given
       suffices ! _ (ends-at 𝓤 H A dump-rows-F.ended stayed (dump-rows-F.clauses 𝓤 H A mem run) W bound-of u r (tt, (tt, (out′, (tt, (tt, tt))))) (tt, (tt, (n-out′, (tt, (tt, tt)))))) $ says ! e $
       nothing ! $ move ! (3 ∷ 0 ∷ []) $ join ! $ move ! (2 ∷ 0 ∷ []) $ join ! $ move ! (1 ∷ 0 ∷ []) $ join ! $ frame ! $ nothing ! $ nothing ! $ fjoin ! $ nothing ! $ fjoin ! $ move ! (1 ∷ 0 ∷ []) $ fjoin ! $ nothing ! $ fjoin ! $ nothing ! $ fjoin ! $ frame ! $ owned ! Answer-T.the-row (Is Answer-T.the-row) (EL.makes Answer-T.the-type Answer-L.the-plain 𝓤 H A) r _ is $ done !
 
-  module _ (𝓣 : Tables 𝓤 H) (fm : FmC 𝓤 H (W .laws) (𝓣 .C)) (known-mark-values : Triple 𝓤 (𝓣 .C #index·mark-values) (contractOf 𝓤 H A mark-values-F.ended (mark-values-F.clauses 𝓤 H A mem run))) (known-give-rows : Triple 𝓤 (𝓣 .C #dumps·give-rows) (contractOf 𝓤 H A give-rows-F.ended (give-rows-F.clauses 𝓤 H A mem run))) where
+  module _ (𝓣 : Tables 𝓤 H) (fm : FmC 𝓤 H (W .laws) (𝓣 .C)) (known-mark-values : Triple 𝓤 (𝓣 .C #fences·mark-values) (contractOf 𝓤 H A mark-values-F.ended (mark-values-F.clauses 𝓤 H A mem run))) (known-give-rows : Triple 𝓤 (𝓣 .C #dumps·give-rows) (contractOf 𝓤 H A give-rows-F.ended (give-rows-F.clauses 𝓤 H A mem run))) where
     walk : Room u32 (length words) → Room Fence-T.the-row (length fences) → Room u8 (length out) → Is Header-T.the-row header (SL.vals Header-T.the-type Header-L.the-laws header) → Is Plan-T.the-row plan (SL.vals Plan-T.the-type Plan-L.the-laws plan) → Planned header plan (length words) (length fences) → ent 𝓤 (onEntry 𝓤 H A dump-rows-F.signature (κ₀, (κ₁, (κ₂, tt))) (q₀, (q₁, (q₂, tt))) args-of vals-of) (WpFn 𝓤 H (𝓣 .C) (𝓣 .Λ) code.function (sliceVal (b₀, o₀) (length words) ∷ sliceVal (b₁, o₁) (length fences) ∷ sliceVal (b₂, o₂) (length out) ∷ SL.val Header-T.the-type Header-L.the-laws header ∷ SL.val Plan-T.the-type Plan-L.the-laws plan ∷ []) Post)
     walk room-words room-fences room-out is-header is-plan req =
         qed W ((‵ (flft κ₀ q₀) ⊛ (‵ (flft κ₁ q₁) ⊛ (‵ (flft κ₂ q₂) ⊛ ‵ ftrue))) ∷ ‵ (owns (ShrSlice (named 0) κ₀ u32 ∷ ShrSlice (named 1) κ₁ Fence-T.the-row ∷ MutSlice (named 2) κ₂ u8 ∷ Header-T.the-row ∷ Plan-T.the-row ∷ []) args-of vals-of) ∷ []) ∵ enter ! (𝓣 .C) (𝓣 .Λ) code.function (sliceVal (b₀, o₀) (length words) ∷ sliceVal (b₁, o₁) (length fences) ∷ sliceVal (b₂, o₂) (length out) ∷ SL.val Header-T.the-type Header-L.the-laws header ∷ SL.val Plan-T.the-type Plan-L.the-laws plan ∷ []) _ $
@@ -142,7 +142,7 @@ module _ {M : Type 1} (𝓤 : URA M) (H : Heap 𝓤) (A : Atoms 𝓤) (W : Given
         assigns ! (addr ! (from ! (stop !))) (from ! (stop !)) (init ! 22 refl (tt, tt)) $
         assigns ! (agg ! (and-then ! (load ! (from ! (stop !)) (look ! 22 refl)) (and-then ! (big-lit ! (record { fits = lit< tt })) (no-more !)))) (from ! (stop !)) (init ! 20 refl (tt, (tt, (record { fits = lit< tt }, tt)))) $
         move ! (2 ∷ 3 ∷ 4 ∷ 5 ∷ 0 ∷ 1 ∷ []) $
-        -- mark_values
+        -- fences::marking::mark_values
         calls-shr-shr-mut ! fm u32 Fence-T.the-row u8 Boolean (plain (λ _. Header-T.the-row) ∷ plain (λ _. Plan-T.the-row) ∷ []) (yes, (yes, tt)) (mark-values-F.clauses 𝓤 H A mem run) known-mark-values b₀ o₀ γ₀ words (length words) refl b₁ o₁ γ₁ fences (length fences) refl l₆ 0 δ′₆ rows 126976 n-rows
         (λ κs. (header, (plan, tt))) (λ κs. (SL.val Header-T.the-type Header-L.the-laws header ∷ [], (SL.val Plan-T.the-type Plan-L.the-laws plan ∷ [], tt))) (λ κs. owns-make 𝓤 H A (Header-T.the-row ∷ Plan-T.the-row ∷ []) (Ises (Header-T.the-row ∷ Plan-T.the-row ∷ [])) (SL.makes Header-T.the-type Header-L.the-plain 𝓤 H A, (SL.makes Plan-T.the-type Plan-L.the-plain 𝓤 H A, tt)) (header, (plan, tt)) (SL.val Header-T.the-type Header-L.the-laws header ∷ [], (SL.val Plan-T.the-type Plan-L.the-laws plan ∷ [], tt)) (is-header, (is-plan, tt))) (λ κs δ₀ δ₁ δ₂. tt) (λ κs δ₀ δ₁ δ₂. factI 𝓤 (Planned header plan (length words) (length fences) × (header .issued ≤ length rows)) (emp 𝓤) (call-1 words fences header plan req))
         (λ r1 rows1. (r1 ≡ valuesHold header (memoryOf words fences) rows (header .values)) × (r1 ≡ true → rows1 ≡ markedValues header (memoryOf words fences) rows (header .values))) (λ κs δ₀ δ₁ δ₂ r1 ws. id⊢ 𝓤 _) (λ κs δ₀ δ₁ δ₂. (and-then ! (load ! (from ! (stop !)) (look ! 36 refl)) (and-then ! (load ! (from ! (stop !)) (look ! 34 refl)) (and-then ! (load ! (from ! (stop !)) (look ! 20 refl)) (and-then ! (load ! (from ! (stop !)) (look ! 30 refl)) (and-then ! (load ! (from ! (stop !)) (look ! 28 refl)) (no-more !)))))))
@@ -182,12 +182,12 @@ module _ {M : Type 1} (𝓤 : URA M) (H : Heap 𝓤) (A : Atoms 𝓤) (W : Given
         by ! (exits (EL.val Answer-T.the-type Answer-L.the-laws r2) r2 out2 n-out2 (exit-2 words fences out header plan req r1 rows1 e1 h1 r2 out2 e2) (told-enum Answer-T.the-type Answer-L.the-laws r2 _ is2))))))))))))))))))))))))
 
 module _ {M : Type 1} (𝓤 : URA M) (H : Heap 𝓤) (A : Atoms 𝓤) (W : Given 𝓤 H A) (mem : Memory → SProp 𝓤) (run : Routine → Fun 𝓤) where
-  dump-rows-walks : (𝓣 : Tables 𝓤 H) → Triple 𝓤 (𝓣 .C #index·mark-values) (contractOf 𝓤 H A mark-values-F.ended (mark-values-F.clauses 𝓤 H A mem run)) → Triple 𝓤 (𝓣 .C #dumps·give-rows) (contractOf 𝓤 H A give-rows-F.ended (give-rows-F.clauses 𝓤 H A mem run)) → Walks 𝓤 H A dump-rows-F.ended stayed (WpFn 𝓤 H (𝓣 .C) (𝓣 .Λ) code.function) (dump-rows-F.clauses 𝓤 H A mem run)
+  dump-rows-walks : (𝓣 : Tables 𝓤 H) → Triple 𝓤 (𝓣 .C #fences·mark-values) (contractOf 𝓤 H A mark-values-F.ended (mark-values-F.clauses 𝓤 H A mem run)) → Triple 𝓤 (𝓣 .C #dumps·give-rows) (contractOf 𝓤 H A give-rows-F.ended (give-rows-F.clauses 𝓤 H A mem run)) → Walks 𝓤 H A dump-rows-F.ended stayed (WpFn 𝓤 H (𝓣 .C) (𝓣 .Λ) code.function) (dump-rows-F.clauses 𝓤 H A mem run)
   dump-rows-walks 𝓣 known-mark-values known-give-rows =
       walked 𝓤 H A dump-rows-F.ended stayed (dump-rows-F.clauses 𝓤 H A mem run) (WpFn 𝓤 H (𝓣 .C) (𝓣 .Λ) code.function) (λ κs. (slice-vals, (slice-vals, (slice-vals, (SL.vals Header-T.the-type Header-L.the-laws, (SL.vals Plan-T.the-type Plan-L.the-laws, tt)))))) (λ κs. (shr-slice-tells (named 0) (κs .0) u32, (shr-slice-tells (named 1) (κs .1 .0) Fence-T.the-row, (mut-slice-tells (named 2) (κs .1 .1 .0) u8, (SL.tells Header-T.the-type Header-L.the-laws, (SL.tells Plan-T.the-type Plan-L.the-laws, tt))))))
       (λ κs qs bounds a g are. needs 𝓤 _ _ (walk 𝓤 H A W mem run (κs .0) (κs .1 .0) (κs .1 .1 .0) (qs .0) (qs .1 .0) (qs .1 .1 .0) (a .0 .ptr .0) (a .0 .ptr .1) (a .0 .name) (a .0 .now) (a .1 .0 .ptr .0) (a .1 .0 .ptr .1) (a .1 .0 .name) (a .1 .0 .now) (a .1 .1 .0 .ptr .0) (a .1 .1 .0 .ptr .1) (a .1 .1 .0 .name) (a .1 .1 .0 .now) (a .1 .1 .1 .0) (a .1 .1 .1 .1 .0) 𝓣 (fmOf 𝓤 H (W .laws) 𝓣) known-mark-values known-give-rows (are .0 .0 .1) (are .1 .0 .0 .1) (are .1 .1 .0 .0 .1) (are .1 .1 .1 .0) (are .1 .1 .1 .1 .0)))
 
-dump-rows-meets : {M : Type 1} (𝓤 : URA M) (H : Heap 𝓤) (A : Atoms 𝓤) (W : Given 𝓤 H A) (mem : Memory → SProp 𝓤) (run : Routine → Fun 𝓤) (𝓣 : Tables 𝓤 H) → Triple 𝓤 (𝓣 .C #index·mark-values) (contractOf 𝓤 H A mark-values-F.ended (mark-values-F.clauses 𝓤 H A mem run)) → Triple 𝓤 (𝓣 .C #dumps·give-rows) (contractOf 𝓤 H A give-rows-F.ended (give-rows-F.clauses 𝓤 H A mem run)) → Meets 𝓤 H A dump-rows-F.signature (WpFn 𝓤 H (𝓣 .C) (𝓣 .Λ) code.function) (dump-rows-F.spec 𝓤 H A mem run)
+dump-rows-meets : {M : Type 1} (𝓤 : URA M) (H : Heap 𝓤) (A : Atoms 𝓤) (W : Given 𝓤 H A) (mem : Memory → SProp 𝓤) (run : Routine → Fun 𝓤) (𝓣 : Tables 𝓤 H) → Triple 𝓤 (𝓣 .C #fences·mark-values) (contractOf 𝓤 H A mark-values-F.ended (mark-values-F.clauses 𝓤 H A mem run)) → Triple 𝓤 (𝓣 .C #dumps·give-rows) (contractOf 𝓤 H A give-rows-F.ended (give-rows-F.clauses 𝓤 H A mem run)) → Meets 𝓤 H A dump-rows-F.signature (WpFn 𝓤 H (𝓣 .C) (𝓣 .Λ) code.function) (dump-rows-F.spec 𝓤 H A mem run)
 dump-rows-meets 𝓤 H A W mem run 𝓣 known-mark-values known-give-rows =
     walk-meets 𝓤 H A dump-rows-F.ended stayed W (goes-dropped 𝓤 H A W 3 (shrSliceOf (0 ∷ []) tt (plain (λ _. u32))) yes (λ κs x f. refl), (goes-dropped 𝓤 H A W 3 (shrSliceOf (1 ∷ []) tt (plain (λ _. Fence-T.the-row))) yes (λ κs x f. refl), (goes-slice 𝓤 H A W 3 2 tt (plain (λ _. u8)), (goes-dropped 𝓤 H A W 3 (plain (λ _. Header-T.the-row)) yes (λ κs x f. refl), (goes-dropped 𝓤 H A W 3 (plain (λ _. Plan-T.the-row)) yes (λ κs x f. refl), tt)))))
     (dump-rows-F.clauses 𝓤 H A mem run) (WpFn 𝓤 H (𝓣 .C) (𝓣 .Λ) code.function) (WpFn-mono 𝓤 H (W .laws) 𝓣 code.function) (dump-rows-walks 𝓤 H A W mem run 𝓣 known-mark-values known-give-rows)
@@ -198,5 +198,5 @@ dump-rows-spec 𝓤 H 𝓜 𝓖 𝓡 =
     entered 𝓤 H (tripleOf 𝓤 H (𝓖 .A) dump-rows-F.signature (dump-rows-F.spec 𝓤 H (𝓖 .A) (𝓜 .mem) (𝓡 .run)))
     (tables 𝓤 H 𝓜 𝓡 code.env .C) (tables 𝓤 H 𝓜 𝓡 code.env .Λ) #index·dump-rows code.function (code.unfolded 𝓤 H 𝓜 𝓡)
     (dump-rows-meets 𝓤 H (𝓖 .A) (givenOf 𝓤 H 𝓜 𝓖) (𝓜 .mem) (𝓡 .run) (tablesOf 𝓤 H 𝓜 (tables 𝓤 H 𝓜 𝓡 code.env))
-    (cited 𝓤 H (tripleOf 𝓤 H (𝓖 .A) mark-values-F.signature (mark-values-F.spec 𝓤 H (𝓖 .A) (𝓜 .mem) (𝓡 .run))) 𝓜 𝓡 code.env #index·mark-values mark-values-def.routine code.calls-index·dumping·mark-values (mark-values-thm.met 𝓤 H 𝓜 𝓖 𝓡))
+    (cited 𝓤 H (tripleOf 𝓤 H (𝓖 .A) mark-values-F.signature (mark-values-F.spec 𝓤 H (𝓖 .A) (𝓜 .mem) (𝓡 .run))) 𝓜 𝓡 code.env #fences·mark-values mark-values-def.routine code.calls-fences·marking·mark-values (mark-values-thm.met 𝓤 H 𝓜 𝓖 𝓡))
     (cited 𝓤 H (tripleOf 𝓤 H (𝓖 .A) give-rows-F.signature (give-rows-F.spec 𝓤 H (𝓖 .A) (𝓜 .mem) (𝓡 .run))) 𝓜 𝓡 code.env #dumps·give-rows give-rows-def.routine code.calls-dumps·dump·give-rows (give-rows-thm.met 𝓤 H 𝓜 𝓖 𝓡)))

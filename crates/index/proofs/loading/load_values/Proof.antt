@@ -62,10 +62,10 @@ use Rattle.columns.proofs.column.load_blocks as load-blocks-F
 use Rattle.columns.proofs.column.load_blocks.Symbol as load-blocks-def
 use Rattle.columns.proofs.column.load_blocks.Symbol.{name as #columns·load-blocks}
 use Rattle.columns.proofs.column.load_blocks.Met as load-blocks-thm
-use Rattle.index.proofs.fences.renew as renew-F
-use Rattle.index.proofs.fences.renew.Symbol as renew-def
-use Rattle.index.proofs.fences.renew.Symbol.{name as #index·renew}
-use Rattle.index.proofs.fences.renew.Met as renew-thm
+use Rattle.fences.proofs.records.renew as renew-F
+use Rattle.fences.proofs.records.renew.Symbol as renew-def
+use Rattle.fences.proofs.records.renew.Symbol.{name as #fences·renew}
+use Rattle.fences.proofs.records.renew.Met as renew-thm
 use Rattle.index.proofs.loading.load_values.Key.{name as #index·load-values}
 use Rattle.index.proofs.loading.load_values as load-values-F
 use Rattle.index.proofs.loading.load_values.Statement as stated
@@ -109,7 +109,7 @@ module _ {M : Type 1} (𝓤 : URA M) (H : Heap 𝓤) (A : Atoms 𝓤) (W : Given
       suffices ! _ (ends-at 𝓤 H A load-values-F.ended stayed (load-values-F.clauses 𝓤 H A mem run) W bound-of vunit tt (words′, (fences′, (tt, (tt, (tt, tt))))) (n-words′, (n-fences′, (tt, (tt, (tt, tt)))))) $ says ! e $
       nothing ! $ move ! (5 ∷ 0 ∷ []) $ join ! $ move ! (3 ∷ 0 ∷ []) $ join ! $ move ! (1 ∷ 0 ∷ []) $ join ! $ frame ! $ nothing ! $ nothing ! $ fjoin ! $ nothing ! $ fjoin ! $ nothing ! $ fjoin ! $ move ! (2 ∷ 0 ∷ []) $ fjoin ! $ move ! (1 ∷ 0 ∷ []) $ fjoin ! $ frame ! $ feqI ! (List Val) (vunit ∷ []) (vunit ∷ []) refl $ done !
 
-  module _ (𝓣 : Tables 𝓤 H) (fm : FmC 𝓤 H (W .laws) (𝓣 .C)) (known-load-blocks : Triple 𝓤 (𝓣 .C #columns·load-blocks) (contractOf 𝓤 H A load-blocks-F.ended (load-blocks-F.clauses 𝓤 H A mem run))) (known-renew : Triple 𝓤 (𝓣 .C #index·renew) (contractOf 𝓤 H A renew-F.ended (renew-F.clauses 𝓤 H A mem run))) where
+  module _ (𝓣 : Tables 𝓤 H) (fm : FmC 𝓤 H (W .laws) (𝓣 .C)) (known-load-blocks : Triple 𝓤 (𝓣 .C #columns·load-blocks) (contractOf 𝓤 H A load-blocks-F.ended (load-blocks-F.clauses 𝓤 H A mem run))) (known-renew : Triple 𝓤 (𝓣 .C #fences·renew) (contractOf 𝓤 H A renew-F.ended (renew-F.clauses 𝓤 H A mem run))) where
     walk : Room u32 (length words) → Room Fence-T.the-row (length fences) → Room u8 (length column) → Is Header-T.the-row header (SL.vals Header-T.the-type Header-L.the-laws header) → Is Plan-T.the-row plan (SL.vals Plan-T.the-type Plan-L.the-laws plan) → Planned header plan (length words) (length fences) × (length column ≤ header .rows) → ent 𝓤 (onEntry 𝓤 H A load-values-F.signature (κ₀, (κ₁, (κ₂, tt))) (q₀, (q₁, (q₂, tt))) args-of vals-of) (WpFn 𝓤 H (𝓣 .C) (𝓣 .Λ) code.function (sliceVal (b₀, o₀) (length words) ∷ sliceVal (b₁, o₁) (length fences) ∷ sliceVal (b₂, o₂) (length column) ∷ SL.val Header-T.the-type Header-L.the-laws header ∷ SL.val Plan-T.the-type Plan-L.the-laws plan ∷ []) Post)
     walk room-words room-fences room-column is-header is-plan req =
         qed W ((‵ (flft κ₀ q₀) ⊛ (‵ (flft κ₁ q₁) ⊛ (‵ (flft κ₂ q₂) ⊛ ‵ ftrue))) ∷ ‵ (owns (MutSlice (named 0) κ₀ u32 ∷ MutSlice (named 1) κ₁ Fence-T.the-row ∷ ShrSlice (named 2) κ₂ u8 ∷ Header-T.the-row ∷ Plan-T.the-row ∷ []) args-of vals-of) ∷ []) ∵ enter ! (𝓣 .C) (𝓣 .Λ) code.function (sliceVal (b₀, o₀) (length words) ∷ sliceVal (b₁, o₁) (length fences) ∷ sliceVal (b₂, o₂) (length column) ∷ SL.val Header-T.the-type Header-L.the-laws header ∷ SL.val Plan-T.the-type Plan-L.the-laws plan ∷ []) _ $
@@ -139,7 +139,7 @@ module _ {M : Type 1} (𝓤 : URA M) (H : Heap 𝓤) (A : Atoms 𝓤) (W : Given
         assigns ! (agg ! (and-then ! (load ! (from ! (stop !)) (look ! 12 refl)) (and-then ! (load ! (from ! (fld ! refl (stop !))) (look-in ! 34 (sub ! 1 refl (whole !)))) (no-more !)))) (from ! (stop !)) (init ! 10 refl (tt, (tt, (record { fits = room-words .0 }, tt)))) $
         assigns ! (addr ! (from ! (fld ! refl (hop ! (look-in ! 32 (sub ! 0 refl (whole !))) (stop !))))) (from ! (stop !)) (init ! 8 refl (tt, tt)) $
         assigns ! (agg ! (and-then ! (load ! (from ! (stop !)) (look ! 8 refl)) (and-then ! (load ! (from ! (fld ! refl (stop !))) (look-in ! 32 (sub ! 1 refl (whole !)))) (no-more !)))) (from ! (stop !)) (init ! 6 refl (tt, (tt, (record { fits = room-fences .0 }, tt)))) $
-        -- renew
+        -- fences::records::renew
         calls-view-mut ! fm u32 Fence-T.the-row NoValue (plain (λ _. Plan-T.the-row) ∷ plain (λ _. u32) ∷ []) (yes, (yes, tt)) (renew-F.clauses 𝓤 H A mem run) known-renew b₀ o₀ γ₀ words1 (length words) n-words1 b₁ o₁ γ₁ (x .1 .0) (length fences) (x .1 .1 .1 .0)
         (λ κs. (plan, ((x .0), tt))) (λ κs. (SL.val Plan-T.the-type Plan-L.the-laws plan ∷ [], (vint w32 (x .0) ∷ [], tt))) (λ κs. owns-make 𝓤 H A (Plan-T.the-row ∷ u32 ∷ []) (Ises (Plan-T.the-row ∷ u32 ∷ [])) (SL.makes Plan-T.the-type Plan-L.the-plain 𝓤 H A, (uint-makes 𝓤 H A W w32, tt)) (plan, ((x .0), tt)) (SL.val Plan-T.the-type Plan-L.the-laws plan ∷ [], (vint w32 (x .0) ∷ [], tt)) (is-plan, ((refl, (below-word (x .1 .1 .0) (SL.owed Header-T.the-type Header-L.the-laws header _ is-header .1 .1 .0 .1))), tt))) (λ κs δ₀ δ₁. tt) (λ κs δ₀ δ₁. factI 𝓤 (Fenced plan (length words1) (length (x .1 .0)) (x .0) × (valueLength (blockIn plan words1 (x .0)) ≤ plan .shape .groups)) (emp 𝓤) (call-2 words fences column header plan req words1 n-words1 e1 (x .0) (x .1 .0) (x .1 .1 .1 .0) (ltb→lt (x .0) (header .values) less-h)))
         (λ r2 fences2. fences2 ≡ renewedFences plan words1 (x .1 .0) (x .0)) (λ κs δ₀ δ₁ r2 ws. id⊢ 𝓤 _) (λ κs δ₀ δ₁. (and-then ! (load ! (from ! (stop !)) (look ! 10 refl)) (and-then ! (load ! (from ! (stop !)) (look ! 6 refl)) (and-then ! (load ! (from ! (stop !)) (look ! 26 refl)) (and-then ! (load ! (from ! (stop !)) (look ! 24 refl)) (no-more !))))))
@@ -156,12 +156,12 @@ module _ {M : Type 1} (𝓤 : URA M) (H : Heap 𝓤) (A : Atoms 𝓤) (W : Given
         by ! (exits words1 (x .1 .0) n-words1 (x .1 .1 .1 .0) (exit-1 words fences column header plan req words1 n-words1 e1 (x .0) (x .1 .0) (x .1 .1 .1 .1) (le-antisymm (x .1 .1 .0) (nltb→le (x .0) (header .values) done-h)))))) (0, (fences, (zero-le, (refl, refl)))))))))))))))))))))
 
 module _ {M : Type 1} (𝓤 : URA M) (H : Heap 𝓤) (A : Atoms 𝓤) (W : Given 𝓤 H A) (mem : Memory → SProp 𝓤) (run : Routine → Fun 𝓤) where
-  load-values-walks : (𝓣 : Tables 𝓤 H) → Triple 𝓤 (𝓣 .C #columns·load-blocks) (contractOf 𝓤 H A load-blocks-F.ended (load-blocks-F.clauses 𝓤 H A mem run)) → Triple 𝓤 (𝓣 .C #index·renew) (contractOf 𝓤 H A renew-F.ended (renew-F.clauses 𝓤 H A mem run)) → Walks 𝓤 H A load-values-F.ended stayed (WpFn 𝓤 H (𝓣 .C) (𝓣 .Λ) code.function) (load-values-F.clauses 𝓤 H A mem run)
+  load-values-walks : (𝓣 : Tables 𝓤 H) → Triple 𝓤 (𝓣 .C #columns·load-blocks) (contractOf 𝓤 H A load-blocks-F.ended (load-blocks-F.clauses 𝓤 H A mem run)) → Triple 𝓤 (𝓣 .C #fences·renew) (contractOf 𝓤 H A renew-F.ended (renew-F.clauses 𝓤 H A mem run)) → Walks 𝓤 H A load-values-F.ended stayed (WpFn 𝓤 H (𝓣 .C) (𝓣 .Λ) code.function) (load-values-F.clauses 𝓤 H A mem run)
   load-values-walks 𝓣 known-load-blocks known-renew =
       walked 𝓤 H A load-values-F.ended stayed (load-values-F.clauses 𝓤 H A mem run) (WpFn 𝓤 H (𝓣 .C) (𝓣 .Λ) code.function) (λ κs. (slice-vals, (slice-vals, (slice-vals, (SL.vals Header-T.the-type Header-L.the-laws, (SL.vals Plan-T.the-type Plan-L.the-laws, tt)))))) (λ κs. (mut-slice-tells (named 0) (κs .0) u32, (mut-slice-tells (named 1) (κs .1 .0) Fence-T.the-row, (shr-slice-tells (named 2) (κs .1 .1 .0) u8, (SL.tells Header-T.the-type Header-L.the-laws, (SL.tells Plan-T.the-type Plan-L.the-laws, tt))))))
       (λ κs qs bounds a g are. needs 𝓤 _ _ (walk 𝓤 H A W mem run (κs .0) (κs .1 .0) (κs .1 .1 .0) (qs .0) (qs .1 .0) (qs .1 .1 .0) (a .0 .ptr .0) (a .0 .ptr .1) (a .0 .name) (a .0 .now) (a .1 .0 .ptr .0) (a .1 .0 .ptr .1) (a .1 .0 .name) (a .1 .0 .now) (a .1 .1 .0 .ptr .0) (a .1 .1 .0 .ptr .1) (a .1 .1 .0 .name) (a .1 .1 .0 .now) (a .1 .1 .1 .0) (a .1 .1 .1 .1 .0) 𝓣 (fmOf 𝓤 H (W .laws) 𝓣) known-load-blocks known-renew (are .0 .0 .1) (are .1 .0 .0 .1) (are .1 .1 .0 .0 .1) (are .1 .1 .1 .0) (are .1 .1 .1 .1 .0)))
 
-load-values-meets : {M : Type 1} (𝓤 : URA M) (H : Heap 𝓤) (A : Atoms 𝓤) (W : Given 𝓤 H A) (mem : Memory → SProp 𝓤) (run : Routine → Fun 𝓤) (𝓣 : Tables 𝓤 H) → Triple 𝓤 (𝓣 .C #columns·load-blocks) (contractOf 𝓤 H A load-blocks-F.ended (load-blocks-F.clauses 𝓤 H A mem run)) → Triple 𝓤 (𝓣 .C #index·renew) (contractOf 𝓤 H A renew-F.ended (renew-F.clauses 𝓤 H A mem run)) → Meets 𝓤 H A load-values-F.signature (WpFn 𝓤 H (𝓣 .C) (𝓣 .Λ) code.function) (load-values-F.spec 𝓤 H A mem run)
+load-values-meets : {M : Type 1} (𝓤 : URA M) (H : Heap 𝓤) (A : Atoms 𝓤) (W : Given 𝓤 H A) (mem : Memory → SProp 𝓤) (run : Routine → Fun 𝓤) (𝓣 : Tables 𝓤 H) → Triple 𝓤 (𝓣 .C #columns·load-blocks) (contractOf 𝓤 H A load-blocks-F.ended (load-blocks-F.clauses 𝓤 H A mem run)) → Triple 𝓤 (𝓣 .C #fences·renew) (contractOf 𝓤 H A renew-F.ended (renew-F.clauses 𝓤 H A mem run)) → Meets 𝓤 H A load-values-F.signature (WpFn 𝓤 H (𝓣 .C) (𝓣 .Λ) code.function) (load-values-F.spec 𝓤 H A mem run)
 load-values-meets 𝓤 H A W mem run 𝓣 known-load-blocks known-renew =
     walk-meets 𝓤 H A load-values-F.ended stayed W (goes-slice 𝓤 H A W 3 0 tt (plain (λ _. u32)), (goes-slice 𝓤 H A W 3 1 tt (plain (λ _. Fence-T.the-row)), (goes-dropped 𝓤 H A W 3 (shrSliceOf (2 ∷ []) tt (plain (λ _. u8))) yes (λ κs x f. refl), (goes-dropped 𝓤 H A W 3 (plain (λ _. Header-T.the-row)) yes (λ κs x f. refl), (goes-dropped 𝓤 H A W 3 (plain (λ _. Plan-T.the-row)) yes (λ κs x f. refl), tt)))))
     (load-values-F.clauses 𝓤 H A mem run) (WpFn 𝓤 H (𝓣 .C) (𝓣 .Λ) code.function) (WpFn-mono 𝓤 H (W .laws) 𝓣 code.function) (load-values-walks 𝓤 H A W mem run 𝓣 known-load-blocks known-renew)
@@ -173,4 +173,4 @@ load-values-spec 𝓤 H 𝓜 𝓖 𝓡 =
     (tables 𝓤 H 𝓜 𝓡 code.env .C) (tables 𝓤 H 𝓜 𝓡 code.env .Λ) #index·load-values code.function (code.unfolded 𝓤 H 𝓜 𝓡)
     (load-values-meets 𝓤 H (𝓖 .A) (givenOf 𝓤 H 𝓜 𝓖) (𝓜 .mem) (𝓡 .run) (tablesOf 𝓤 H 𝓜 (tables 𝓤 H 𝓜 𝓡 code.env))
     (cited 𝓤 H (tripleOf 𝓤 H (𝓖 .A) load-blocks-F.signature (load-blocks-F.spec 𝓤 H (𝓖 .A) (𝓜 .mem) (𝓡 .run))) 𝓜 𝓡 code.env #columns·load-blocks load-blocks-def.routine code.calls-columns·column·load-blocks (load-blocks-thm.met 𝓤 H 𝓜 𝓖 𝓡))
-    (cited 𝓤 H (tripleOf 𝓤 H (𝓖 .A) renew-F.signature (renew-F.spec 𝓤 H (𝓖 .A) (𝓜 .mem) (𝓡 .run))) 𝓜 𝓡 code.env #index·renew renew-def.routine code.calls-index·fences·renew (renew-thm.met 𝓤 H 𝓜 𝓖 𝓡)))
+    (cited 𝓤 H (tripleOf 𝓤 H (𝓖 .A) renew-F.signature (renew-F.spec 𝓤 H (𝓖 .A) (𝓜 .mem) (𝓡 .run))) 𝓜 𝓡 code.env #fences·renew renew-def.routine code.calls-fences·records·renew (renew-thm.met 𝓤 H 𝓜 𝓖 𝓡)))

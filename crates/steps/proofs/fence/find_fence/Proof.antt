@@ -5,9 +5,9 @@ use Prim.Native.Nat.{ℕ, _*_, _<_, _≤_}
 use native.Mathlib.Omega.{arith}
 use Rattle.blocks.specs.Shape.{blockSize}
 use Rattle.blocks.specs.Block.{part, valueList}
-use Rattle.blocks.specs.Fences.{locateFrom}
-use Rattle.blocks.specs.declared.fence.Cursor.{Cursor}
-use Rattle.blocks.proofs.FenceLaws.{Stands, stands-place}
+use Rattle.readings.specs.Fences.{locateFrom}
+use Rattle.readings.specs.declared.fence.Cursor.{Cursor}
+use Rattle.readings.proofs.FenceLaws.{Stands, stands-place}
 use Rattle.blocks.proofs.Sizes.{few-groups, few-fences, fence-group}
 use Rattle.steps.specs.Plans.{blockIn, listIn}
 use Rattle.steps.proofs.Plans.{inside}

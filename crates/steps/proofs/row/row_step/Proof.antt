@@ -4,9 +4,9 @@ use Prim.Native.Nat.{ℕ, _*_, _/_, _≤_}
 use native.Mathlib.Omega.{arith}
 use borrow.Author.Needs.{needs}
 use Rattle.blocks.specs.Block.{part}
-use Rattle.blocks.specs.Read.{readGroup}
+use Rattle.readings.specs.Read.{readGroup}
 use Rattle.blocks.specs.Shape.{blockSize}
-use Rattle.blocks.proofs.Readings.{group-says}
+use Rattle.readings.proofs.Readings.{group-says}
 use Rattle.steps.specs.Plans.{blockIn}
 use Rattle.steps.proofs.Plans.{inside}
 use Rattle.steps.proofs.RowLaws.{step-clear, step-set}

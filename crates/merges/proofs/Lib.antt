@@ -1,0 +1,3 @@
+pub mod Flipping
+pub mod Merging
+pub mod Turning

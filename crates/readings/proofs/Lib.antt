@@ -1,0 +1,3 @@
+pub mod FenceLaws
+pub mod Reaching
+pub mod Readings
