@@ -3,7 +3,7 @@
 // list U. Its sizes, the whole check, and writing either list.
 //
 // A block is named by the lent words, its place `at` in them and the shape that all blocks share. Below
-// stand `lists` and `words`. This crate knows nothing of calls, of fences and of several values.
+// stand `lists` and `checks`. This crate knows nothing of calls, of fences and of several values.
 pub mod put;
 pub mod shape;
 pub mod whole;

@@ -7,9 +7,9 @@ ghost use Rattle.blocks.specs.Block.{part};
 ghost use Rattle.blocks.specs.Whole.{wholeOf};
 use crate::shape::Shape;
 use crate::shape::update_room;
-use words::check::Checked;
-use words::check::check;
-use words::check::ones_of;
+use checks::check::Checked;
+use checks::check::check;
+use checks::check::ones_of;
 
 // Whether both lists are whole, with the number of U's ones.
 pub enum Lists {

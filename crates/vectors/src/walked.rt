@@ -1,11 +1,11 @@
 // Walks over document 004's list, and combinations of the documents' lists.
 use crate::say::say;
 use crate::say::say_words;
+use checks::check::Checked;
+use checks::check::check;
 use combinations::combine::xor_into;
 use reads::walk::Walk;
 use reads::walk::walk_to;
-use words::check::Checked;
-use words::check::check;
 use words::word::group_in;
 
 // Prints the group that a walk finds, and how many words it opened.

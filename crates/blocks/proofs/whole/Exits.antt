@@ -7,10 +7,10 @@ use native.Mathlib.Omega.{arith}
 use lib.ListN.{length, getD}
 use Rattle.groups.specs.Rows.{rowLimit, onesIn, rowsOf}
 use Rattle.words.specs.Words.{decode, canonical}
-use Rattle.words.specs.Check.{checkOf}
-use Rattle.words.specs.declared.check.Checked.the-variants.{Whole, Bad}
+use Rattle.checks.specs.Check.{checkOf}
+use Rattle.checks.specs.declared.check.Checked.the-variants.{Whole, Bad}
 use Rattle.words.proofs.Canonical.{canonical-parts}
-use Rattle.words.proofs.check.Verdict.{bad-canonical, whole-canonical}
+use Rattle.checks.proofs.check.Verdict.{bad-canonical, whole-canonical}
 use Rattle.blocks.specs.Shape.{Limits, updateRoom, blockSize}
 use Rattle.blocks.specs.Block.{part, valueList, updateList}
 use Rattle.blocks.specs.Whole.{updateOnes, wholeLists, wholeOf}

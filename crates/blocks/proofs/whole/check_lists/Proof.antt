@@ -4,8 +4,8 @@ use Prim.Native.Nat.{_+_, _≤_}
 use native.Mathlib.Omega.{arith}
 use lib.ListN.{getD}
 use borrow.Author.Needs.{needs}
-use Rattle.words.specs.Check.{checkOf}
-use Rattle.words.specs.declared.check.Checked.the-variants.{Whole}
+use Rattle.checks.specs.Check.{checkOf}
+use Rattle.checks.specs.declared.check.Checked.the-variants.{Whole}
 use Rattle.blocks.specs.Shape.{updateRoom}
 use Rattle.blocks.proofs.WholeLists.{lent}
 use Rattle.blocks.proofs.whole.Exits.{value-exceeds, update-exceeds, value-bad, update-bad, ones-fit, ones-exceed, intact}

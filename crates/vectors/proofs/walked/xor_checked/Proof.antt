@@ -7,7 +7,7 @@ use lib.ListN.{length}
 use Rattle.words.specs.Words.{decode, canonical}
 use Rattle.words.proofs.Canonical.{canonical-parts}
 use Rattle.words.proofs.Size.{encode-length}
-use Rattle.words.proofs.check.Verdict.{whole-canonical}
+use Rattle.checks.proofs.check.Verdict.{whole-canonical}
 use Rattle.lists.specs.Combine.{exclusive, combined}
 use Rattle.lists.proofs.Combining.{length-combined}
 use Rattle.lists.proofs.Covering.{canonical-covers}

@@ -1,0 +1,34 @@
+-- Document 01, "What the calls do": the whole check of one list.
+use mathlib.Core.Path.{_≡_}
+use mathlib.Core.Bool.{true, cond}
+use mathlib.Core.List.{List, map}
+use Prim.Native.Nat.{ℕ, _+_, _*_, _<_, _≤_}
+use lib.ListN.{length, getD, take}
+use Rattle.words.specs.Words.{allOnes, runOf, decode, noFill, wellFormed, canonical}
+use Rattle.checks.specs.declared.check.Checked.{Checked}
+use Rattle.checks.specs.declared.check.Checked.the-variants.{Whole, Bad}
+
+-- the check of a list for L rows: canonical, or bad
+unfoldable pub checkOf : List ℕ → ℕ → Checked
+checkOf list rows = cond (canonical rows list) Whole Bad
+
+-- a word that is a literal whose bits are not all alike
+abbrev pub Plain : ℕ → Type 0
+Plain word = (0 < word) × (word < allOnes)
+
+-- every word is such a literal
+abbrev pub AllPlain : List ℕ → Type 0
+AllPlain words = (i : ℕ) → i < length words → Plain (getD words i 0)
+
+-- the words in front of place i keep the form, and the sum is what they cover beyond a group each
+pub record Passed (list : List ℕ) (covered i : ℕ) : Type 0 where
+  pub form : wellFormed noFill (map runOf (take i list)) ≡ true
+  pub counts : covered + i ≡ length (decode (take i list))
+  pub room : covered ≤ i * 0x8000
+
+-- the words in front of place i are behind: where no high bit was gathered they passed, and none is of a list that keeps the form and covers few groups
+pub record Behind (list : List ℕ) (gathered covered i : ℕ) : Type 0 where
+  pub within : i ≤ length list
+  pub narrow : covered < 0x100000000
+  pub passed : gathered < 0x8000 → Passed list covered i
+  pub passes : wellFormed noFill (map runOf list) ≡ true → length (decode list) ≤ 0x8000 → gathered < 0x8000

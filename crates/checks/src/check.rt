@@ -1,0 +1,210 @@
+// The whole check of a list: whether it is canonical for its rows. Ones are counted apart, where they are needed.
+ghost use mathlib.Core.Path.{_≡_};
+ghost use mathlib.Core.Bool.{true, cond, _&&_};
+ghost use mathlib.Core.List.{_∷_, map};
+ghost use Prim.Native.Nat.{_+_, _-_, _*_, _^_, _%_, _<_, _≤_};
+ghost use lib.Dec.{eqb};
+ghost use lib.ListN.{length, getD};
+ghost use Rattle.groups.specs.Rows.{rowLimit, onesIn, bitsOf, rowsOf};
+ghost use Rattle.words.specs.Words.{runOf, span, groupIn, decode, noFill, keepsForm, bitAfter, wellFormed};
+ghost use Rattle.checks.specs.Check.{checkOf, Plain, AllPlain, Behind};
+use groups::rows::groups_for;
+use groups::rows::smaller;
+use std::num::wrapping_add_u32;
+use std::num::wrapping_sub_u32;
+use words::word::ALL_ONES;
+use words::word::fill_bit;
+use words::word::fill_count;
+use words::word::group_in;
+use words::word::is_fill;
+
+// No word of a list that is whole covers so many groups, and 32 bits hold the sum of fewer over all words
+// of a list.
+const TOO_MANY: u32 = 0x8000;
+
+// Stands for what a word covers that does not keep the form.
+const FAULT: u32 = 0xFFFFFFFF;
+
+// So many words are looked at together for runs.
+const STRIDE: usize = 64;
+
+// Whether the list is canonical.
+pub enum Checked {
+    Whole,
+    Bad,
+}
+
+// One of two numbers. Both are at hand, so that the pass over a list has no branch and is vectorised.
+fn pick(test: bool, yes: u32, no: u32) -> u32
+    ensures { λ r. ⌜ r ≡ cond test yes no ⌝ }
+{
+    if test { yes } else { no }
+}
+
+// How many groups a word covers beyond one; too many where it does not keep the form behind the word
+// before it. The two highest bits of a word say whether it is a fill, and of which bit. A fill that counts
+// no group wraps to a fault.
+fn excess_of(before: u32, word: u32) -> u32
+    ensures { λ r. ⌜ (keepsForm (bitAfter (runOf before)) (runOf word) ≡ true → r + 1 ≡ span (runOf word))
+        × (r < 0x8000 → keepsForm (bitAfter (runOf before)) (runOf word) ≡ true) ⌝ }
+{
+    let counted = wrapping_sub_u32(fill_count(word), 1);
+    let fill = pick(before >> 30 == word >> 30, FAULT, counted);
+    let excess = pick(is_fill(word), fill, 0);
+    pick(word == 0, FAULT, pick(word == ALL_ONES, FAULT, excess))
+}
+
+// The word in front of place i. No fill stands before the first word: 0 is read as a literal.
+fn word_before(list: &[u32], i: usize) -> u32
+    requires { ⌜ i ≤ length (now list) ⌝ }
+    ensures { λ r. ⌜ r ≡ getD (0 ∷ now (list .entry)) i 0 ⌝ }
+{
+    if i == 0 { 0 } else { list[i - 1] }
+}
+
+// What the words of a list have shown so far: the bits of what each covers beyond one group, and the sum of that.
+pub struct Shown {
+    pub gathered: u32,
+    pub covered: u32,
+}
+
+// A number from 0x80000000 on where a word is a fill, or a literal whose bits are all alike.
+fn run_mark(word: u32) -> u32
+    ensures { λ r. ⌜ (r < 0x80000000 → Plain word) ⌝ }
+{
+    wrapping_sub_u32(word, 1) | wrapping_add_u32(word, 1)
+}
+
+// True only where no word is a run. It has a third of the work of `pass_from` with a word.
+fn all_plain(words: &[u32]) -> bool
+    ensures { λ r. ⌜ (r ≡ true → AllPlain (now (words .entry))) ⌝ }
+{
+    let mut marks: u32 = 0;
+    let mut i: usize = 0;
+    while i < words.len() {
+        marks |= run_mark(words[i]);
+        i += 1;
+    }
+    marks < 0x80000000
+}
+
+// A place that has plain words alone in front of it. A list without order is such up to its end where a group
+// is hardly ever of one bit, and else it has a run among its first words.
+fn plain_front(list: &[u32]) -> usize
+    requires { ⌜ length (now list) ≤ 4096 ⌝ }
+    ensures { λ r. ⌜ Behind (now (list .entry)) 0 0 r ⌝ }
+{
+    let mut i: usize = 0;
+    while i < list.len() {
+        let next = smaller(i + STRIDE, list.len());
+        if !all_plain(&list[i..next]) {
+            return i;
+        }
+        i = next;
+    }
+    i
+}
+
+// The pass over the words from a place on that has plain words alone in front of it: without an early end, so
+// that it is vectorised. The sum can wrap only where a word covers too many, and the bits of all words
+// together show that.
+fn pass_from(list: &[u32], from: usize) -> Shown
+    requires { ⌜ Behind (now list) 0 0 from × (length (now list) ≤ 4096) ⌝ }
+    ensures { λ r. ⌜ Behind (now (list .entry)) (r .gathered) (r .covered) (length (now (list .entry))) ⌝ }
+{
+    if list.len() <= from {
+        return Shown {
+            gathered: 0,
+            covered: 0,
+        };
+    }
+    let first = excess_of(word_before(list, from), list[from]);
+    let mut gathered = first;
+    let mut covered = first;
+    let mut i = from + 1;
+    while i < list.len() {
+        let excess = excess_of(list[i - 1], list[i]);
+        gathered |= excess;
+        covered = wrapping_add_u32(covered, excess);
+        i += 1;
+    }
+    Shown {
+        gathered: gathered,
+        covered: covered,
+    }
+}
+
+// Whether the words of a list keep the form and cover so many groups. Each word is read once, but for those
+// beside the first run.
+fn keeps_form(list: &[u32], groups: usize) -> bool
+    requires { ⌜ (length (now list) ≤ groups) × (groups ≤ 4096) ⌝ }
+    ensures { λ r. ⌜ r ≡ (wellFormed noFill (map runOf (now (list .entry))) && eqb (length (decode (now (list .entry)))) groups) ⌝ }
+{
+    let shown = pass_from(list, plain_front(list));
+    if TOO_MANY <= shown.gathered {
+        return false;
+    }
+    (shown.covered as usize) + list.len() == groups
+}
+
+// The group of the last word; 0 where there is none.
+fn last_group(list: &[u32]) -> u32
+    ensures { λ r. ⌜ r ≡ groupIn (runOf (getD (now (list .entry)) (length (now (list .entry)) - 1) 0)) ⌝ }
+{
+    if list.len() == 0 {
+        return 0;
+    }
+    group_in(list[list.len() - 1])
+}
+
+// Whether the lowest bits of a group are zero, `unused` of them.
+fn tail_clear(group: u32, unused: usize) -> bool
+    requires { ⌜ unused < 31 ⌝ }
+    ensures { λ r. ⌜ r ≡ eqb (group % 2 ^ unused) 0 ⌝ }
+{
+    group & ((1 << unused) - 1) == 0
+}
+
+// The whole check of a list for `length` rows: one pass, whatever the words are, unless there are more
+// words than groups.
+pub fn check(list: &[u32], length: usize) -> Checked
+    requires { ⌜ length ≤ rowLimit ⌝ }
+    ensures { λ r. ⌜ r ≡ checkOf (now (list .entry)) length ⌝ }
+{
+    let groups = groups_for(length);
+    if groups < list.len() {
+        return Checked::Bad;
+    }
+    if !keeps_form(list, groups) {
+        return Checked::Bad;
+    }
+    if !tail_clear(last_group(list), groups * 31 - length) {
+        return Checked::Bad;
+    }
+    Checked::Whole
+}
+
+// How many ones a word stands for.
+fn ones_in(word: u32) -> u32
+    requires { ⌜ 31 * span (runOf word) ≤ rowLimit ⌝ }
+    ensures { λ r. ⌜ r ≡ span (runOf word) * onesIn (bitsOf 31 (groupIn (runOf word))) ⌝ }
+{
+    if is_fill(word) {
+        return fill_count(word) * (fill_bit(word) * 31);
+    }
+    u32::count_ones(word)
+}
+
+// How many ones a list has: one pass, each word read once.
+pub fn ones_of(list: &[u32]) -> u32
+    requires { ⌜ 31 * length (decode (now list)) ≤ rowLimit ⌝ }
+    ensures { λ r. ⌜ r ≡ onesIn (rowsOf (decode (now (list .entry)))) ⌝ }
+{
+    let mut ones: u32 = 0;
+    let mut i: usize = 0;
+    while i < list.len() {
+        ones += ones_in(list[i]);
+        i += 1;
+    }
+    ones
+}
