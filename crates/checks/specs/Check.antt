@@ -26,7 +26,7 @@ pub record Passed (list : List ℕ) (covered i : ℕ) : Type 0 where
   pub counts : covered + i ≡ length (decode (take i list))
   pub room : covered ≤ i * 0x8000
 
--- the words in front of place i are behind: where no high bit was gathered they passed, and none is of a list that keeps the form and covers few groups
+-- what the words in front of place i have shown: if no high bit is gathered they passed, and a list that keeps the form and covers few groups gives no high bit
 pub record Behind (list : List ℕ) (gathered covered i : ℕ) : Type 0 where
   pub within : i ≤ length list
   pub narrow : covered < 0x100000000

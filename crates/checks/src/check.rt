@@ -88,8 +88,8 @@ fn all_plain(words: &[u32]) -> bool
     marks < 0x80000000
 }
 
-// A place that has plain words alone in front of it. A list without order is such up to its end where a group
-// is hardly ever of one bit, and else it has a run among its first words.
+// A place that has plain words alone in front of it: the end of a list without runs. Where runs are common one
+// of the first words is a run, and little is lost by the question.
 fn plain_front(list: &[u32]) -> usize
     requires { ⌜ length (now list) ≤ 4096 ⌝ }
     ensures { λ r. ⌜ Behind (now (list .entry)) 0 0 r ⌝ }

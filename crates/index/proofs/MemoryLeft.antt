@@ -7,9 +7,8 @@ use lib.ListN.{length}
 use Rattle.blocks.specs.Shape.{fenceCount}
 use Rattle.blocks.specs.Block.{write, valueList}
 use Rattle.merges.specs.Change.{mergeDue}
-use Rattle.values.specs.Alter.{isWhole, mergeWords, flipWords, moveWords}
+use Rattle.values.specs.Alter.{isWhole, mergeWords, flipWords, moveWords, renewedFences, flipFences, moveFences}
 use Rattle.steps.specs.Plans.{Suits, blockIn}
-use Rattle.values.specs.Alter.{renewedFences, flipFences, moveFences}
 use Rattle.steps.specs.Entry.{planOf}
 use Rattle.steps.specs.Fences.{fencesFrom}
 use Rattle.steps.specs.Memory.{Memory, memoryOf, blockAt}

@@ -12,8 +12,7 @@ use Rattle.words.specs.Words.{decode, canonical}
 use Rattle.words.proofs.Round.{decode-encode}
 use Rattle.words.proofs.Size.{encode-ones}
 use Rattle.lists.specs.OneRow.{turnedOver}
-use Rattle.lists.proofs.TurningOver.{length-turnedOver, turnedOver-lt, rowAt-turnedOver, rowAt-turnedOver-other}
-use Rattle.lists.proofs.TurningOver.{onesIn-more, onesIn-less, canonical-turnedOver}
+use Rattle.lists.proofs.TurningOver.{length-turnedOver, turnedOver-lt, rowAt-turnedOver, rowAt-turnedOver-other, onesIn-more, onesIn-less, canonical-turnedOver}
 use Rattle.blocks.specs.Shape.{Limits, updateRoom, blockSize}
 use Rattle.blocks.specs.Block.{valueLength, valueWords, valueList, updateList, current, padded}
 use Rattle.blocks.specs.Whole.{updateOnes, wholeLists}

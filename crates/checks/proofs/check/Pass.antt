@@ -2,7 +2,7 @@
 use mathlib.Core.Path.{_≡_, refl, _∙_, sym}
 use mathlib.Core.Bool.{Bool, true, false, _&&_, and-eq-true-iff}
 use mathlib.Core.List.{List, _∷_, map}
-use Prim.Native.Nat.{ℕ, zero, suc, _+_, _*_, _-_, _%_, _<_, _≤_}
+use Prim.Native.Nat.{ℕ, zero, suc, _+_, _-_, _%_, _<_, _≤_}
 use native.Mathlib.Omega.{arith}
 use native.Mathlib.Nat.{add-zero}
 use native.Mathlib.Numerals.{add-one}
@@ -12,7 +12,7 @@ use lib.ListN.{length, getD, take, drop, length-drop}
 use lib.Seq.{take-all, getD-take, getD-drop, length-take-le}
 use borrow.Author.Tests.{eqb-true, ne-eqb}
 use Rattle.words.specs.Words.{allOnes, runOf, span, decode, noFill, keepsForm, bitAfter, wellFormed}
-use Rattle.checks.specs.Check.{Plain, AllPlain, Passed, Behind}
+use Rattle.checks.specs.Check.{Plain, AllPlain, Behind}
 use Rattle.words.proofs.Forms.{runAt, bitPast, length-split, form-split, length-from, length-upto, form-upto, bit-upto}
 use Rattle.words.proofs.word.Reading.{reads-literal}
 use Rattle.checks.proofs.check.Excess.{Tells}

@@ -22,9 +22,8 @@ use Rattle.steps.specs.Memory.{Memory, memoryOf, withinLimits, shapeOf, lent, b
 use Rattle.steps.specs.declared.header.Header.{Header}
 use Rattle.steps.specs.declared.header.Fence.{Fence}
 use Rattle.steps.specs.declared.entry.Plan.{Plan}
-use Rattle.fences.proofs.Planning.{planned-lent}
+use Rattle.fences.proofs.Planning.{planned-lent, one-more, numbers, limits, fenced}
 use Rattle.fences.proofs.Every.{every-holds, holds-every}
-use Rattle.fences.proofs.Planning.{one-more, numbers, limits, fenced}
 use Rattle.fences.proofs.Taken.{takenBefore, apartUpTo, apart-stops, SoundUpTo, apart-holders}
 use Rattle.fences.proofs.Taking.{Taking, taking-begins, taking-on}
 use Rattle.fences.proofs.Tests.{is-false, is-true}

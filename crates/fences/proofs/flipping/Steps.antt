@@ -7,9 +7,8 @@ use lib.ListN.{length}
 use Rattle.answers.specs.declared.Refusal.{Refusal}
 use Rattle.blocks.specs.Block.{valueLength}
 use Rattle.blocks.proofs.WholeLists.{whole-parts}
-use Rattle.values.specs.Alter.{isWhole, mergeAlter, mergeWords, flipAlter, flipWords, moveAlter, moveWords}
+use Rattle.values.specs.Alter.{isWhole, mergeAlter, mergeWords, flipAlter, flipWords, moveAlter, moveWords, renewedFences, renewedIf, flipFences, moveFences}
 use Rattle.steps.specs.Plans.{Fenced, blockIn}
-use Rattle.values.specs.Alter.{renewedFences, renewedIf, flipFences, moveFences}
 use Rattle.values.specs.declared.alter.Alter.the-variants.{Fails, Keeps, Renews}
 use Rattle.values.specs.declared.alter.Move.the-variants.{Breaks, Moves}
 use Rattle.steps.specs.declared.entry.Plan.{Plan}

@@ -23,8 +23,7 @@ use Rattle.steps.specs.declared.entry.Plan.{Plan}
 use Rattle.steps.specs.declared.entry.Entry.the-variants.{Ready, Stop}
 use Rattle.index.proofs.DumpLaws.{dump-holds, dump-bytes}
 use Rattle.index.proofs.Entries.{ready-enters, stop-outcome}
-use Rattle.fences.proofs.Planning.{planned-lent}
-use Rattle.fences.proofs.Planning.{numbers}
+use Rattle.fences.proofs.Planning.{planned-lent, numbers}
 use Rattle.fences.proofs.Tests.{is-false, is-true}
 
 module _ (words : List ℕ) (fences : List Fence) (header : Header) (out : List ℕ) where
