@@ -1,5 +1,5 @@
 //! Links the static library of the `upbit_*` functions: the file that UPBIT_LIB names, or else
-//! target/staticlib/libabi.a of the repository.
+//! target/staticlib/libupbit.a of the repository.
 
 use std::env;
 use std::path::{Path, PathBuf};
@@ -11,8 +11,8 @@ fn main() {
     println!("cargo:rerun-if-changed={}", library.display());
     if !library.is_file() {
         stop(&format!(
-            "there is no static library at {}; the command `rt staticlib abi`, given in the repository's root, \
-             makes target/staticlib/libabi.a there, and UPBIT_LIB may name another file",
+            "there is no static library at {}; the command `rt staticlib upbit`, given in the repository's root, \
+             makes target/staticlib/libupbit.a there, and UPBIT_LIB may name another file",
             library.display()
         ));
     }
@@ -31,7 +31,7 @@ fn library() -> PathBuf {
     let here = PathBuf::from(env::var_os("CARGO_MANIFEST_DIR").unwrap_or_default());
     match env::var_os("UPBIT_LIB") {
         Some(named) => here.join(named),
-        None => here.join("../../target/staticlib/libabi.a"),
+        None => here.join("../../target/staticlib/libupbit.a"),
     }
 }
 

@@ -1,10 +1,10 @@
 """walkgen: proofs of Rattle functions over slices of structs, written from their MIR.
 
-    python3 tools/walkgen lib   crates/walks       write the library that all walks of the repository cite
+    python3 tools/walkgen lib   crates/mir_walks       write the library that all walks of the repository cite
     python3 tools/walkgen thin  CRATE FN at|put    write the proof of a thin read or a thin write
     python3 tools/walkgen show  CRATE FN           print FN's MIR, and each key that its walk.txt may have
     python3 tools/walkgen walk  CRATE [FN ..]      write the proofs of FN .., or of all that have a walk.txt
-    python3 tools/walkgen check CRATE              say whether the proofs are what walkgen writes; of crates/walks the library
+    python3 tools/walkgen check CRATE              say whether the proofs are what walkgen writes; of crates/mir_walks the library
 
 CRATE is a crate's folder, crates/NAME. FN is a function's name, with its module where that is needed: `a::insert`.
 With --mir FILE the MIR is read from a file that `rt mir NAME` printed, and rt is not run.

@@ -262,7 +262,7 @@ class Proof:
         ]
         for callee in self.walk.callees:
             tag, symbol = self.sources.tag(callee), self.sources.symbol(callee)
-            call = "·".join([callee.crate, *(kebab(step) for step in [*callee.module, callee.name])])
+            call = "·".join(kebab(step) for step in [callee.crate, *callee.module, callee.name])
             lines.append(f"    (cited 𝓤 H {self.triple(f'{tag}-F')} 𝓜 𝓡 code.env {symbol} {tag}-def.routine "
                          f"code.calls-{call} ({tag}-thm.met 𝓤 H 𝓜 𝓖 𝓡))")
         return [*lines[:-1], f"{lines[-1]})"]

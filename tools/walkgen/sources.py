@@ -16,7 +16,7 @@ FUNCTION = re.compile(
     r"\bfn (\w+)\s*(?:<[^>]*>)?\s*\(([^)]*)\)\s*(?:->\s*([^{}]+?))?\s*(?=\brequires\b|\bensures\b|\bghost\b|\{)")
 REQUIRES = re.compile(r"\s*requires\s*\{\s*⌜(.*?)⌝\s*\}", re.S)
 ENSURES = re.compile(r"\s*ensures\s*\{\s*λ (\S+?)\.\s*⌜(.*?)⌝\s*\}", re.S)
-LIBRARY = "walks"       # the crate that has the steps of all walks, and no code
+LIBRARY = "mir_walks"       # the crate that has the steps of all walks, and no code
 LOCAL_ARRAY = re.compile(r"\blet\s+(?:mut\s+)?(\w+)\s*(?::[^=;]*(?:;[^=]*)?)?=\s*\[")
 
 

@@ -7,7 +7,7 @@ folder=$(mktemp -d)
 trap 'rm -rf "$folder"' EXIT
 cd "$folder" || exit 1
 proofs=crates/shelf/proofs
-library=crates/walks/proofs
+library=crates/mir_walks/proofs
 
 fail() {
     echo "walkgen: $*"
@@ -36,25 +36,25 @@ changed() { # FILE COMMAND
 }
 
 # The crate, with its files by the names that they have in a crate, and the one for the library.
-mkdir -p crates/shelf crates/walks/src
-echo "// The steps of walks." >crates/walks/src/lib.rt
+mkdir -p crates/shelf crates/mir_walks/src
+echo "// The steps of walks." >crates/mir_walks/src/lib.rt
 cp -r "$here"/test/* crates/shelf
 find crates -name '*.*.txt' | while IFS= read -r file; do mv "$file" "${file%.txt}"; done
-printf 'walks:\nshelf: walks\n' >crates.txt
+printf 'mir_walks:\nshelf: mir_walks\n' >crates.txt
 
 # The walks are written and proved, and stand in the layout of rt fmt.
 walkgen thin crates/shelf mark_at at || fail "thin read: $(cat said)"
 walkgen thin crates/shelf put_mark put || fail "thin write: $(cat said)"
 walkgen walk crates/shelf || fail "walk: $(cat said)"
 [ ! -s said ] || fail "walk: $(cat said)"
-walkgen lib crates/walks || fail "lib: $(cat said)"
+walkgen lib crates/mir_walks || fail "lib: $(cat said)"
 RT_JOBS=1 rt check shelf >log 2>&1 || fail "not proved: $(grep -v note: log | cut -c1-300 | head -n 20)"
 rt fmt --check >log 2>&1 || fail "not in the layout of rt fmt: $(cat log)"
 
 # They are as generated; a changed line is told, of a walk, a thin function or the library, and a file that is not there.
 walkgen check crates/shelf || fail "check: $(cat said)"
 [ "$(cat said)" = "3 walks as generated" ] || fail "check says: $(cat said)"
-walkgen check crates/walks || fail "check of the library: $(cat said)"
+walkgen check crates/mir_walks || fail "check of the library: $(cat said)"
 changed "$proofs/marks/clear/Proof.antt" '2s/nothing/something/'
 changed "$proofs/marks/put_mark/Proof.antt" '2s/nothing/something/'
 changed "$library/Calls.antt" '2s/$/ more/'

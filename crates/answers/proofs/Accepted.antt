@@ -1,10 +1,9 @@
 -- Calls that are not refused: what an outcome of number 0 says of its checks, and what it then is. Assumes nothing.
 use mathlib.Core.Path.{_≡_, refl}
 use mathlib.Core.Bool.{true, false}
-use mathlib.Core.List.{List, [], _∷_, _++_}
+use mathlib.Core.List.{List, [], _∷_}
 use Prim.Native.Nat.{ℕ}
 use native.Mathlib.Omega.{arith}
-use lib.ListN.{length, drop}
 use Rattle.answers.specs.Numbers.{numberOf}
 use Rattle.answers.specs.Outcome.{Check, _when_, Outcome, outcome}
 use Rattle.answers.specs.declared.Answer.the-variants.{Done, Refused}

@@ -3,7 +3,7 @@ use mathlib.Core.Path.{_≡_, refl, _∙_, ap, sym}
 use mathlib.Core.List.{List, [], _∷_}
 use Prim.Native.Nat.{ℕ, zero, suc}
 use lib.ListN.{getD}
-use Rattle.answers.specs.Numbers.{Paper, numberOf, paper}
+use Rattle.answers.specs.Numbers.{Paper, paper}
 use Rattle.answers.specs.Outcome.{Outcome, Gives}
 use Rattle.answers.specs.declared.Refusal.{Refusal}
 use Rattle.answers.specs.declared.Refusal.the-variants.{BadHeader, Small, BadValue, NoRow, Full, Damaged, Gone, OutSmall, BadList, BadFrame}

@@ -2,6 +2,6 @@ pub mod Blocks
 pub mod EmptyUpdates
 pub mod Parts
 pub mod Rooms
-pub mod Sizes
+pub mod SizeLaws
 pub mod WholeLists
 pub mod ZeroList

@@ -11,9 +11,9 @@ use lib.Seq.{length-take-le, take-nil, take-at, drop-at, take-append-le, drop-ap
 use lib.Seq.{take-add, take-take, drop-drop, set-split, sets, sets-eq}
 use borrow.Rule.Slice.PartMut.{put-same}
 use Rattle.groups.proofs.Sets.{drop-further}
-use Rattle.blocks.specs.Shape.{updateRoom, blockSize}
+use Rattle.blocks.specs.Sizes.{valueRoom, updateRoom}
 use Rattle.blocks.specs.Block.{part, write, valueLength, updateLength, valueWords, updateWords, valueList, updateList}
-use Rattle.blocks.specs.declared.shape.Shape.{Shape}
+use Rattle.blocks.specs.declared.sizes.Sizes.{Sizes}
 
 -- ---- parts
 
@@ -108,41 +108,10 @@ module _ {A : Type 0} (words : List A) (at : ℕ) (new : List A) (fits : at + le
   pub part-apart : (other count : ℕ) → Apart at (length new) other count → part (write words at new) other count ≡ part words other count
   part-apart other count apart = ⊎-elim (part-behind other count) (part-before other count) apart
 
--- a write within what was written
-pub write-within : {A : Type 0} (words : List A) (at : ℕ) (new : List A) (from : ℕ) (newer : List A) → at + length new ≤ length words → from + length newer ≤ length new
-    → write (write words at new) (at + from) newer ≡ write words at (write new from newer)
-unfolding write
-write-within words at new from newer fits h =
-    rw (
-      take-add at from (write words at new),
-      add-assoc at from (length newer),
-      ← drop-drop (from + length newer) at (write words at new),
-      take-write words at new fits,
-      drop-write words at new fits,
-      take-append-le from new (drop (at + length new) words) (omega arith),
-      drop-append-le (from + length newer) new (drop (at + length new) words) h,
-      length-write new from newer h,
-    )
-    (simp append-assoc)
-
--- a second write at the same place
-pub write-write : {A : Type 0} (words : List A) (at : ℕ) (new newer : List A) → at + length new ≤ length words → length newer ≡ length new
-    → write (write words at new) at newer ≡ write words at newer
-unfolding write
-write-write words at new newer h e = rw (take-write words at new h, e, drop-behind words at new h) refl
-
 -- what stands there already
 pub write-part : {A : Type 0} (words : List A) (at count : ℕ) → at + count ≤ length words → write words at (part words at count) ≡ words
 unfolding part
 write-part words at count h = sym (write-lent words at count (part words at count) (length-part words at count h)) ∙ put-same at count words
-
--- a write within a part is a write of the part
-pub write-inside : {A : Type 0} (words : List A) (at size from : ℕ) (new : List A) → at + size ≤ length words → from + length new ≤ size
-    → write words (at + from) new ≡ write words at (write (part words at size) from new)
-write-inside {A = A} words at size from new fits h =
-    let long = length-part words at size fits in
-    ap (λ (same : List A). write same (at + from) new) (sym (write-part words at size fits))
-    ∙ write-within words at (part words at size) from new (omega arith) (omega arith)
 
 -- ---- stores
 
@@ -164,63 +133,38 @@ write-more words at new word h =
     write-set (write words at new) end word (rw (length-write words at new fits) h)
     ∙ rw (upto, behind, length-append new (word ∷ []), add-assoc at (length new) 1) (simp append-assoc)
 
-pub write-sets : (words : List ℕ) (at : ℕ) (new : List ℕ) → at + length new ≤ length words → sets words at new ≡ write words at new
-unfolding write
-write-sets words at new h = rw (sets-eq new words at h, append-assoc) refl
+-- ---- the parts of a block, as slices
 
--- ---- the block at a place of some words
+module _ (sizes : Sizes) (block : List ℕ) where
+  -- the front of V's room, V, and what it leaves unused
+  pub value-front-slice : (count from to : ℕ) → from ≡ 2 → to ≡ 2 + count → count ≤ valueRoom sizes
+      → take (to - from) (drop from block) ≡ take count (valueWords sizes block)
+  unfolding valueWords
+  value-front-slice count from to e f h = part-slice block 2 count from to e (omega arith) ∙ sym (take-part block 2 (valueRoom sizes) count h)
 
-module _ (shape : Shape) (words : List ℕ) (at : ℕ) where
-  pub value-length : valueLength (part words at (blockSize shape)) ≡ getD words at 0
-  value-length = rw (getD-part words at (blockSize shape) 0 0 (omega arith), add-zero) refl
-
-  pub update-length : updateLength (part words at (blockSize shape)) ≡ getD words (at + 1) 0
-  update-length = getD-part words at (blockSize shape) 1 0 (omega arith)
-
-  -- V from a place on, as a slice
-  pub value-slice : (place from to : ℕ) → from ≡ at + 2 + place → to ≡ at + 2 + getD words at 0 → getD words at 0 ≤ shape .groups
-      → take (to - from) (drop from words) ≡ drop place (valueList shape (part words at (blockSize shape)))
+  pub value-slice : (from to : ℕ) → from ≡ 2 → to ≡ 2 + valueLength block → valueLength block ≤ valueRoom sizes
+      → take (to - from) (drop from block) ≡ valueList sizes block
   unfolding valueList valueWords
-  value-slice place from to e f h =
-      rw (
-        value-length,
-        part-part words at (blockSize shape) 2 (shape .groups) (omega arith),
-        take-part words (at + 2) (shape .groups) (getD words at 0) h,
-        drop-part words (at + 2) (getD words at 0) place,
-      )
-      (part-slice words (at + 2 + place) (getD words at 0 - place) from to e (omega arith))
+  value-slice from to e f h = value-front-slice (valueLength block) from to e f h
 
-  -- U, as a slice
-  pub update-slice : (from to : ℕ) → from ≡ at + 2 + shape .groups → to ≡ from + getD words (at + 1) 0 → getD words (at + 1) 0 ≤ updateRoom shape
-      → take (to - from) (drop from words) ≡ updateList shape (part words at (blockSize shape))
+  pub value-unused-slice : (from to : ℕ) → from ≡ 2 + valueLength block → to ≡ 2 + valueRoom sizes
+      → take (to - from) (drop from block) ≡ drop (valueLength block) (valueWords sizes block)
+  unfolding valueWords
+  value-unused-slice from to e f =
+      part-slice block (2 + valueLength block) (valueRoom sizes - valueLength block) from to e (omega arith)
+      ∙ sym (drop-part block 2 (valueRoom sizes) (valueLength block))
+
+  -- U, and what it leaves unused
+  pub update-slice : (from to : ℕ) → from ≡ 2 + valueRoom sizes → to ≡ from + updateLength block → updateLength block ≤ updateRoom sizes
+      → take (to - from) (drop from block) ≡ updateList sizes block
   unfolding updateList updateWords
   update-slice from to e f h =
-      rw (
-        update-length,
-        part-part words at (blockSize shape) (2 + shape .groups) (updateRoom shape) (omega arith),
-        take-part words (at + (2 + shape .groups)) (updateRoom shape) (getD words (at + 1) 0) h,
-      )
-      (part-slice words (at + (2 + shape .groups)) (getD words (at + 1) 0) from to (omega arith) (omega arith))
+      part-slice block (2 + valueRoom sizes) (updateLength block) from to e (omega arith)
+      ∙ sym (take-part block (2 + valueRoom sizes) (updateRoom sizes) (updateLength block) h)
 
-  -- the words that V and U leave unused in their rooms, as slices
-  pub value-unused : (from to : ℕ) → from ≡ at + 2 + getD words at 0 → to ≡ at + 2 + shape .groups
-      → take (to - from) (drop from words) ≡ drop (valueLength (part words at (blockSize shape))) (valueWords shape (part words at (blockSize shape)))
-  unfolding valueWords
-  value-unused from to e f =
-      rw (
-        value-length,
-        part-part words at (blockSize shape) 2 (shape .groups) (omega arith),
-        drop-part words (at + 2) (shape .groups) (getD words at 0),
-      )
-      (part-slice words (at + 2 + getD words at 0) (shape .groups - getD words at 0) from to e (omega arith))
-
-  pub update-unused : (from to : ℕ) → from ≡ at + 2 + shape .groups + getD words (at + 1) 0 → to ≡ at + 2 + shape .groups + updateRoom shape
-      → take (to - from) (drop from words) ≡ drop (updateLength (part words at (blockSize shape))) (updateWords shape (part words at (blockSize shape)))
+  pub update-unused-slice : (from to : ℕ) → from ≡ 2 + valueRoom sizes + updateLength block → to ≡ 2 + valueRoom sizes + updateRoom sizes
+      → take (to - from) (drop from block) ≡ drop (updateLength block) (updateWords sizes block)
   unfolding updateWords
-  update-unused from to e f =
-      rw (
-        update-length,
-        part-part words at (blockSize shape) (2 + shape .groups) (updateRoom shape) (omega arith),
-        drop-part words (at + (2 + shape .groups)) (updateRoom shape) (getD words (at + 1) 0),
-      )
-      (part-slice words (at + (2 + shape .groups) + getD words (at + 1) 0) (updateRoom shape - getD words (at + 1) 0) from to (omega arith) (omega arith))
+  update-unused-slice from to e f =
+      part-slice block (2 + valueRoom sizes + updateLength block) (updateRoom sizes - updateLength block) from to e (omega arith)
+      ∙ sym (drop-part block (2 + valueRoom sizes) (updateRoom sizes) (updateLength block))

@@ -14,9 +14,10 @@ use Rattle.words.proofs.Uniform.{rowsOf-uniform}
 use Rattle.words.proofs.Ones.{onesIn-replicate, onesIn-none}
 use Rattle.words.proofs.Round.{read-written}
 use Rattle.lists.proofs.OneRow.{encode-zeros}
-use Rattle.blocks.specs.Shape.{Limits, updateRoom}
+use Rattle.blocks.specs.Sizes.{updateRoom}
+use Rattle.blocks.specs.Inner.{Limits}
 use Rattle.blocks.specs.Block.{padded, zeroList}
-use Rattle.blocks.specs.declared.shape.Shape.{Shape}
+use Rattle.blocks.specs.declared.sizes.Sizes.{Sizes}
 use Rattle.blocks.proofs.Rooms.{drop-zeros, padded-first}
 
 all-zero : (count : ℕ) → allZero (replicate count 0) ≡ true
@@ -27,35 +28,35 @@ zeros-clear : (row groups : ℕ) → clearFrom row (replicate groups 0) ≡ true
 unfolding clearFrom
 zeros-clear row groups = rw (rowsOf-uniform 0 groups (omega arith), drop-zeros row (31 * groups)) (all-zero (31 * groups - row))
 
-module _ (shape : Shape) (limits : Limits shape) where
+module _ (sizes : Sizes) (limits : Limits sizes) where
   -- THEOREM: it is one fill
-  pub zeroList-word : zeroList shape ≡ wordOf (fill 0 (shape .groups)) ∷ []
+  pub zeroList-word : zeroList sizes ≡ wordOf (fill 0 (sizes .groups)) ∷ []
   unfolding zeroList
-  zeroList-word = encode-zeros (shape .groups) (omega arith)
+  zeroList-word = encode-zeros (sizes .groups) (omega arith)
 
-  pub length-zeroList : length (zeroList shape) ≡ 1
+  pub length-zeroList : length (zeroList sizes) ≡ 1
   length-zeroList = rw zeroList-word refl
 
   -- in U's room, as it is made: one word stored in front of zeros
-  pub zeroList-room : (word zeros : ℕ) → word ≡ wordOf (fill 0 (shape .groups)) → updateRoom shape ≤ zeros
-      → take (updateRoom shape) (set (replicate zeros 0) 0 word) ≡ padded (updateRoom shape) (zeroList shape)
-  zeroList-room word zeros e large = rw (zeroList-word, ← e) (padded-first (updateRoom shape) word zeros (omega arith) large)
+  pub zeroList-room : (word zeros : ℕ) → word ≡ wordOf (fill 0 (sizes .groups)) → updateRoom sizes ≤ zeros
+      → take (updateRoom sizes) (set (replicate zeros 0) 0 word) ≡ padded (updateRoom sizes) (zeroList sizes)
+  zeroList-room word zeros e large = rw (zeroList-word, ← e) (padded-first (updateRoom sizes) word zeros (omega arith) large)
 
-  zeroList-run : runOf (wordOf (fill 0 (shape .groups))) ≡ fill 0 (shape .groups)
-  zeroList-run = read-written (fill 0 (shape .groups)) (omega arith, omega arith)
+  zeroList-run : runOf (wordOf (fill 0 (sizes .groups))) ≡ fill 0 (sizes .groups)
+  zeroList-run = read-written (fill 0 (sizes .groups)) (omega arith, omega arith)
 
   -- THEOREM: all its groups are zero
-  pub decode-zeroList : decode (zeroList shape) ≡ replicate (shape .groups) 0
-  decode-zeroList = rw (zeroList-word, zeroList-run) (append-nil (replicate (shape .groups) 0))
+  pub decode-zeroList : decode (zeroList sizes) ≡ replicate (sizes .groups) 0
+  decode-zeroList = rw (zeroList-word, zeroList-run) (append-nil (replicate (sizes .groups) 0))
 
-  pub canonical-zeroList : canonical (shape .rows) (zeroList shape) ≡ true
+  pub canonical-zeroList : canonical (sizes .rows) (zeroList sizes) ≡ true
   canonical-zeroList =
-      parts-canonical (shape .rows) (zeroList shape)
+      parts-canonical (sizes .rows) (zeroList sizes)
       (record {
-        form = rw (zeroList-word, zeroList-run, lt-ltb 0 (shape .groups) (omega arith)) refl;
+        form = rw (zeroList-word, zeroList-run, lt-ltb 0 (sizes .groups) (omega arith)) refl;
         long = rw (decode-zeroList, length-replicate) (limits .groupsAre);
-        clear = rw decode-zeroList (zeros-clear (shape .rows) (shape .groups));
+        clear = rw decode-zeroList (zeros-clear (sizes .rows) (sizes .groups));
       })
 
-  pub ones-zeroList : onesIn (rowsOf (decode (zeroList shape))) ≡ 0
-  ones-zeroList = rw (decode-zeroList, onesIn-replicate (shape .groups) 0, onesIn-none) (mul-zero (shape .groups))
+  pub ones-zeroList : onesIn (rowsOf (decode (zeroList sizes))) ≡ 0
+  ones-zeroList = rw (decode-zeroList, onesIn-replicate (sizes .groups) 0, onesIn-none) (mul-zero (sizes .groups))

@@ -1,4 +1,5 @@
-pub mod Shape
-pub mod Block
-pub mod Whole
 pub mod Audit
+pub mod Block
+pub mod Inner
+pub mod Sizes
+pub mod Whole

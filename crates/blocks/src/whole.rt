@@ -1,15 +1,16 @@
 // The whole check of both lists of a value.
 ghost use mathlib.Core.Path.{_≡_};
-ghost use Prim.Native.Nat.{_+_, _≤_};
 ghost use lib.ListN.{length};
-ghost use Rattle.blocks.specs.Shape.{Limits, blockSize};
-ghost use Rattle.blocks.specs.Block.{part};
-ghost use Rattle.blocks.specs.Whole.{wholeOf};
-use crate::shape::Shape;
-use crate::shape::update_room;
-use checks::check::Checked;
-use checks::check::check;
-use checks::check::ones_of;
+ghost use Rattle.blocks.specs.Sizes.{blockSize};
+ghost use Rattle.blocks.specs.Inner.{Limits, wholeOf};
+use crate::layout::update_length;
+use crate::layout::update_list;
+use crate::layout::value_length;
+use crate::layout::value_list;
+use crate::sizes::Sizes;
+use list_check::check::Checked;
+use list_check::check::check;
+use list_check::check::ones_of;
 
 // Whether both lists are whole, with the number of U's ones.
 pub enum Lists {
@@ -17,34 +18,28 @@ pub enum Lists {
     Faulty,
 }
 
-// Checks both lists of the block at `at`: length, canonical form, M groups, bits past R zero, at most
-// T ones in U. Each word is read once, those of U once more for their ones.
-pub fn check_lists(words: &[u32], at: usize, shape: Shape) -> Lists
-    requires { ⌜ Limits shape × (at + blockSize shape ≤ length (now words)) ⌝ }
-    ensures { λ r. ⌜ r ≡ wholeOf shape (part (now (words .entry)) at (blockSize shape)) ⌝ }
+// Checks both lists of a block: length, canonical form, M groups, bits past R zero, at most T ones in U.
+// Each word is read once, those of U once more for their ones.
+pub fn check_lists(block: &[u32], sizes: Sizes) -> Lists
+    requires { ⌜ Limits sizes × (length (now block) ≡ blockSize sizes) ⌝ }
+    ensures { λ r. ⌜ r ≡ wholeOf sizes (now (block .entry)) ⌝ }
 {
-    let groups = shape.groups as usize;
-    let value_length = words[at] as usize;
-    if groups < value_length {
+    if sizes.value_room < value_length(block) {
         return Lists::Faulty;
     }
-    let update_length = words[at + 1] as usize;
-    if update_room(shape) < update_length {
+    if sizes.update_room < update_length(block) {
         return Lists::Faulty;
     }
-    let rows = shape.rows as usize;
-    let value = at + 2;
-    let value_end = value + value_length;
-    let Checked::Whole = check(&words[value..value_end], rows) else {
+    let rows = sizes.rows as usize;
+    let Checked::Whole = check(value_list(block, sizes), rows) else {
         return Lists::Faulty;
     };
-    let update = value + groups;
-    let update_end = update + update_length;
-    let Checked::Whole = check(&words[update..update_end], rows) else {
+    let update = update_list(block, sizes);
+    let Checked::Whole = check(update, rows) else {
         return Lists::Faulty;
     };
-    let ones = ones_of(&words[update..update_end]);
-    if shape.threshold < ones {
+    let ones = ones_of(update);
+    if sizes.threshold < ones {
         return Lists::Faulty;
     }
     Lists::Intact(ones)

@@ -4,17 +4,16 @@ ghost use Prim.Native.Nat.{_+_, _<_, _≤_};
 ghost use lib.ListN.{length, take, drop};
 ghost use lib.Seq.{sets};
 ghost use Rattle.words.specs.Words.{decode};
-ghost use Rattle.lists.specs.Combine.{Formed};
-ghost use Rattle.combinations.specs.Spans.{remaining};
-ghost use Rattle.combinations.specs.Copying.{goesOn, Reaches, notCopied, Copies};
-use crate::combine::Span;
+ghost use Rattle.lists.specs.Inner.{Formed};
+ghost use Rattle.combinations.specs.Inner.{remaining, goesOn, Reaches, notCopied, Copies};
+use crate::span::Span;
 use words::word::ALL_ONES;
 use words::word::group_in;
 use words::word::span_of;
 use words::writer::Pending;
 use words::writer::copy;
 
-// So many words are looked at together.
+// How many words are looked at together.
 const STRIDE: usize = 16;
 
 // The first words of a list, and how many groups they cover.
@@ -24,7 +23,7 @@ pub struct Reach {
 }
 
 // What is written before the next step: the run that `ended` is, then `words` words as they are, which
-// cover so many groups. Behind them a run is pending.
+// cover so many groups. After them the run `pending` is still to be written.
 pub struct Copying {
     pub ended: Pending,
     pub words: usize,
@@ -115,7 +114,7 @@ fn no_copy(pending: Pending) -> Copying
 }
 
 // What can be copied of a list from a span on, beside a span of the other list. A group is left of the
-// other's span, so that no run that is copied goes on behind it.
+// other's span, so that no run that is copied goes on after it.
 pub fn next_copy(list: &[u32], from: Span, other: Span, pending: Pending) -> Copying
     requires { ⌜ Formed (now list) × (length (decode (now list)) ≤ 4096) × (0 < other .left)
         × (other .left ≤ length (remaining (now list) from)) × (pending .bit < 2) × (from .next ≤ length (now list)) ⌝ }
@@ -141,7 +140,7 @@ pub fn next_copy(list: &[u32], from: Span, other: Span, pending: Pending) -> Cop
     }
 }
 
-// Copies words of a list to a place of the output; answers the place behind them.
+// Copies words of a list to a place of the output; answers the place after them.
 pub fn copy_words(list: &[u32], from: usize, words: usize, out: &mut [u32], at: usize) -> usize
     requires { ⌜ (from + words ≤ length (now list)) × (at + words ≤ length (now out)) ⌝ }
     ensures { λ r. ⌜ (r ≡ at + words) × (now (out .exit) ≡ sets (now (out .entry)) at (take words (drop from (now (list .entry))))) ⌝ }

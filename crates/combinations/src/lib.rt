@@ -3,4 +3,5 @@
 // Below it stand `words`, which writes a list word by word, and `lists`, whose specs and laws say what the
 // combination of two lists is. It knows nothing of values and headers.
 pub mod combine;
-pub mod copying;
+mod copying;
+mod span;

@@ -1,8 +1,9 @@
 // The calls of the index, each over what is lent of the console's memory.
-use crate::lent::Lent;
-use crate::lent::ROOM;
-use crate::lent::after;
 use answers::Answer;
+use block_read::fence::Fence;
+use desk_orders::lent::Lent;
+use desk_orders::lent::ROOM;
+use desk_orders::lent::after;
 use groups::rows::smaller;
 use index::answering::query;
 use index::answering::value;
@@ -20,13 +21,13 @@ use lines::orders::Order;
 use lines::say::say_done;
 use lines::say::say_dump;
 use lines::say::say_list;
+use lines::say::say_no_line;
 use lines::say::say_number;
-use lines::say::say_text;
 use lines::say::say_value;
+use lines::say::say_zero;
 use lines::verbs::Verb;
-use steps::header::Changed;
-use steps::header::Fence;
-use steps::header::Header;
+use memory::header::Changed;
+use memory::header::Header;
 
 // The calls that change rows.
 pub enum Change {
@@ -78,12 +79,8 @@ fn say_changed(order: Order, changed: Changed) {
     match verb {
         Verb::Load => say_number(b"0 loaded ", header.issued as u64),
         Verb::Insert => say_number(b"0 row ", number as u64),
-        _ => say_text(b"0"),
+        _ => say_zero(),
     }
-}
-
-fn say_wrong() {
-    say_text(b"? line");
 }
 
 // `load R d T G ..`, of a column.
@@ -140,7 +137,7 @@ pub fn obey_load(
     match read_column(input, &mut column, waiting, order.rest) {
         Counted::Count(count) => load_lent(words, fences, &mut column, lent, order, count),
         Counted::Wrong => {
-            say_wrong();
+            say_no_line();
             lent
         }
     }

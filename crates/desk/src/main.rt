@@ -1,25 +1,22 @@
 // A line console over every call of the index, for people who want to try it and for tests: `help` lists
 // its commands. Each line is answered by one line.
 mod lending;
-mod lent;
-mod memory;
-mod records;
 mod serve;
 
-use lent::FENCES;
-use lent::WORDS;
+use block_read::fence::Fence;
+use desk_orders::lent::FENCES;
+use desk_orders::lent::WORDS;
 use serve::serve;
-use steps::header::Fence;
 
-// The console's memory.
-fn with_memory(input: &mut [u8]) {
-    let mut words = [0u32; WORDS];
+// The console's fences.
+fn with_fences(words: &mut [u32], input: &mut [u8]) {
     let mut fences = [Fence { place: 0, first: 0 }; FENCES];
-    serve(&mut words, &mut fences, input);
+    serve(words, &mut fences, input);
 }
 
-// A line has up to 600,000 bytes, and a line end.
+// The console's words, and its input: a line has up to 600,000 bytes, and a line end.
 fn main() {
+    let mut words = [0u32; WORDS];
     let mut input = [0u8; 600001];
-    with_memory(&mut input);
+    with_fences(&mut words, &mut input);
 }

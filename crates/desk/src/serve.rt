@@ -2,17 +2,17 @@
 use crate::lending::obey_change;
 use crate::lending::obey_load;
 use crate::lending::obey_question;
-use crate::lent::Lent;
-use crate::lent::all_lent;
-use crate::memory::obey_other;
-use crate::records::obey_records;
+use block_read::fence::Fence;
+use desk_orders::lent::Lent;
+use desk_orders::lent::all_lent;
+use desk_orders::records::obey_records;
+use desk_orders::word_orders::obey_other;
 use lines::input::Waiting;
 use lines::input::has_ended;
 use lines::input::look_on;
 use lines::input::nothing_waiting;
 use lines::orders::Request;
 use lines::orders::next_request;
-use steps::header::Fence;
 
 // What the console keeps from one turn to the next.
 pub struct Console {

@@ -1,94 +1,78 @@
 -- Laws of the numbers that digits spell.
 use mathlib.Core.Path.{_≡_, refl, sym, _∙_, ap}
-use mathlib.Core.Bool.{true, false}
+use mathlib.Core.Bool.{Bool, true, false}
 use mathlib.Core.List.{List, [], _∷_}
-use Prim.Native.Nat.{ℕ, zero, suc, _+_, _-_, _*_, _<_, _≤_, _^_}
-use native.Mathlib.Nat.{mul-le-mul-left, mul-le-mul-right}
+use Prim.Native.Nat.{ℕ, zero, suc, _+_, _*_, _<_, _≤_}
 use native.Mathlib.Numerals.{add-one}
 use native.Mathlib.Omega.{arith}
-use lib.Dec.{leb, ltb, eqb}
 use lib.ListN.{length, getD, drop}
 use lib.Seq.{drop-cons}
 use borrow.Author.Tests.{le-leb, lt-leb, lt-ltb, le-ltb, eq-eqb, ne-eqb}
+use Rattle.digits.specs.Digits.{digitOf, areDigits, numberIn}
 use Rattle.fields.specs.declared.numbers.Number.{Number}
 use Rattle.fields.specs.declared.numbers.Number.the-variants.{Is, Not}
-use Rattle.fields.specs.Numbers.{digitOf, withDigit, digitAfter, numberFrom, numberIn, wordIn}
+use Rattle.fields.specs.Numbers.{withDigit, decimalFrom, decimalIn, wordIn}
 
-pub below-digits : (byte : ℕ) → byte < 48 → 16 ≡ digitOf byte
-unfolding digitOf
-below-digits byte low = rw (lt-leb 48 byte low, lt-leb 97 byte (omega arith)) refl
+-- ---- one digit more
 
-pub decimal-digit : (byte : ℕ) → 48 ≤ byte → byte ≤ 57 → byte - 48 ≡ digitOf byte
-unfolding digitOf
-decimal-digit byte low high = rw (le-leb 48 byte low, le-leb byte 57 high) refl
-
-pub between-digits : (byte : ℕ) → 57 < byte → byte < 97 → 16 ≡ digitOf byte
-unfolding digitOf
-between-digits byte low high = rw (le-leb 48 byte (omega arith), lt-leb byte 57 low, lt-leb 97 byte high) refl
-
-pub letter-digit : (byte : ℕ) → 97 ≤ byte → byte ≤ 102 → byte - 87 ≡ digitOf byte
-unfolding digitOf
-letter-digit byte low high = rw (le-leb 48 byte (omega arith), lt-leb byte 57 (omega arith), le-leb 97 byte low, le-leb byte 102 high) refl
-
-pub above-digits : (byte : ℕ) → 102 < byte → 16 ≡ digitOf byte
-unfolding digitOf
-above-digits byte high = rw (le-leb 48 byte (omega arith), lt-leb byte 57 (omega arith), le-leb 97 byte (omega arith), lt-leb byte 102 high) refl
-
-module _ (base value digit : ℕ) where
-  pub no-digit : base ≤ digit → Not ≡ withDigit base value digit
+module _ (value digit : ℕ) where
+  pub no-digit : 10 ≤ digit → Not ≡ withDigit value digit
   unfolding withDigit
-  no-digit high = rw (le-ltb digit base high) refl
+  no-digit high = rw (le-ltb digit 10 high) refl
 
-  pub too-large : digit < base → 4294967295 < value * base + digit → Not ≡ withDigit base value digit
+  pub too-large : digit < 10 → 4294967295 < value * 10 + digit → Not ≡ withDigit value digit
   unfolding withDigit
-  too-large low large = rw (lt-ltb digit base low, lt-leb (value * base + digit) 4294967295 large) refl
+  too-large low large = rw (lt-ltb digit 10 low, lt-leb (value * 10 + digit) 4294967295 large) refl
 
-  pub one-digit-more : digit < base → value * base + digit ≤ 4294967295 → Is (value * base + digit) ≡ withDigit base value digit
+  pub one-digit-more : digit < 10 → value * 10 + digit ≤ 4294967295 → Is (value * 10 + digit) ≡ withDigit value digit
   unfolding withDigit
-  one-digit-more low fits = rw (lt-ltb digit base low, le-leb (value * base + digit) 4294967295 fits) refl
+  one-digit-more low fits = rw (lt-ltb digit 10 low, le-leb (value * 10 + digit) 4294967295 fits) refl
 
--- A product that stays far below 64 bits.
-pub product-fits : (value base : ℕ) → value < 2 ^ 32 → base ≤ 16 → value * base ≤ 68719476736
-product-fits value base fits small = omega (arith, mul-le-mul-left value small)
+-- ---- a decimal number
 
-pub never-a-number : (base : ℕ) (bytes : List ℕ) → numberFrom base Not bytes ≡ Not
-never-a-number base [] = refl
-never-a-number base (byte ∷ bytes) = never-a-number base bytes
+never-a-number : (bytes : List ℕ) → decimalFrom Not bytes ≡ Not
+never-a-number [] = refl
+never-a-number (byte ∷ bytes) = never-a-number bytes
 
-pub no-digits : (base : ℕ) (bytes : List ℕ) → length bytes ≡ 0 → Not ≡ numberIn base bytes
-no-digits base [] none = refl
-no-digits base (byte ∷ bytes) none = absurd (omega (arith, none))
+pub no-digits : (bytes : List ℕ) → length bytes ≡ 0 → Not ≡ decimalIn bytes
+no-digits [] none = refl
+no-digits (byte ∷ bytes) none = absurd (omega (arith, none))
 
-pub from-zero : (base : ℕ) (bytes : List ℕ) → (length bytes ≡ 0 → ⊥) → numberFrom base (Is 0) bytes ≡ numberIn base bytes
-from-zero base [] some = absurd (some refl)
-from-zero base (byte ∷ bytes) some = refl
-
--- One digit is read.
-pub one-read : (base value : ℕ) (bytes : List ℕ) (i : ℕ) → i < length bytes
-    → numberFrom base (Is value) (drop i bytes) ≡ numberFrom base (withDigit base value (digitOf (getD bytes i 0))) (drop (i + 1) bytes)
-one-read base value bytes i less = rw (add-one, drop-cons bytes i 0 less) refl
+pub from-zero : (bytes : List ℕ) → (length bytes ≡ 0 → ⊥) → decimalFrom (Is 0) bytes ≡ decimalIn bytes
+from-zero [] some = absurd (some refl)
+from-zero (byte ∷ bytes) some = refl
 
 -- All digits are read.
-pub all-read : (base value : ℕ) (bytes : List ℕ) (i : ℕ) → length bytes ≤ i → numberFrom base (Is value) (drop i bytes) ≡ Is value
-all-read base value [] zero past = refl
-all-read base value [] (suc i) past = refl
-all-read base value (byte ∷ bytes) zero past = absurd (omega (arith, past))
-all-read base value (byte ∷ bytes) (suc i) past = all-read base value bytes i (omega (arith, past))
+pub all-read : (value : ℕ) (bytes : List ℕ) (i : ℕ) → length bytes ≤ i → decimalFrom (Is value) (drop i bytes) ≡ Is value
+all-read value [] zero past = refl
+all-read value [] (suc i) past = refl
+all-read value (byte ∷ bytes) zero past = absurd (omega (arith, past))
+all-read value (byte ∷ bytes) (suc i) past = all-read value bytes i (omega (arith, past))
 
-pub a-word : (bytes : List ℕ) → length bytes ≡ 8 → numberIn 16 bytes ≡ wordIn bytes
-unfolding wordIn
-a-word bytes eight = rw (eq-eqb (length bytes) 8 eight) refl
+module _ (value : ℕ) (bytes : List ℕ) (i : ℕ) (less : i < length bytes) (so-far : decimalFrom (Is value) (drop i bytes) ≡ decimalIn bytes)
+    (digit : ℕ) (is : digit ≡ digitOf (getD bytes i 0)) (number : Number) (made : number ≡ withDigit value digit) where
+  -- One digit is read.
+  one-read : decimalFrom number (drop (i + 1) bytes) ≡ decimalIn bytes
+  one-read = rw (made, is, add-one) (rw (drop-cons bytes i 0 less) at so-far)
 
-pub no-word : (bytes : List ℕ) → (length bytes ≡ 8 → ⊥) → Not ≡ wordIn bytes
-unfolding wordIn
-no-word bytes other = rw (ne-eqb (length bytes) 8 other) refl
+  pub read-more : (next : ℕ) → number ≡ Is next → decimalFrom (Is next) (drop (i + 1) bytes) ≡ decimalIn bytes
+  read-more next some = rw (← some) one-read
 
-module _ (base value : ℕ) (bytes : List ℕ) (i : ℕ) (less : i < length bytes) (digit : ℕ) (is : digit ≡ digitOf (getD bytes i 0)) (so-far : numberFrom base (Is value) (drop i bytes) ≡ numberIn base bytes) where
   -- A byte that is no digit, or one too many, ends the reading.
-  pub read-none : (number : Number) → number ≡ withDigit base value digit → number ≡ Not → Not ≡ numberIn base bytes
-  read-none number made none =
-      sym (never-a-number base (drop (i + 1) bytes)) ∙ ap (λ (n : Number). numberFrom base n (drop (i + 1) bytes)) (sym none ∙ made ∙ ap (withDigit base value) is)
-      ∙ sym (one-read base value bytes i less) ∙ so-far
+  pub read-none : number ≡ Not → Not ≡ decimalIn bytes
+  read-none none = sym (never-a-number (drop (i + 1) bytes)) ∙ rw (← none) one-read
 
-  pub read-more : (number : Number) → number ≡ withDigit base value digit → (next : ℕ) → number ≡ Is next → numberFrom base (Is next) (drop (i + 1) bytes) ≡ numberIn base bytes
-  read-more number made next some = ap (λ (n : Number). numberFrom base n (drop (i + 1) bytes)) (sym some ∙ made ∙ ap (withDigit base value) is) ∙ sym (one-read base value bytes i less) ∙ so-far
+-- ---- a word
+
+module _ (bytes : List ℕ) where
+  pub no-word : (length bytes ≡ 8 → ⊥) → Not ≡ wordIn bytes
+  unfolding wordIn
+  no-word other = rw (ne-eqb (length bytes) 8 other) refl
+
+  pub no-digit-word : length bytes ≡ 8 → areDigits bytes ≡ false → Not ≡ wordIn bytes
+  unfolding wordIn
+  no-digit-word eight some = rw (eq-eqb (length bytes) 8 eight, some) refl
+
+  pub a-word : length bytes ≡ 8 → areDigits bytes ≡ true → (number : ℕ) → number ≡ numberIn bytes → Is number ≡ wordIn bytes
+  unfolding wordIn
+  a-word eight all number is = rw (eq-eqb (length bytes) 8 eight, all, is) refl

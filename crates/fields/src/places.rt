@@ -12,40 +12,29 @@ pub struct Field {
     pub to: usize,
 }
 
-// What stands at a place of a line: a number, with the place behind it, or no number.
+// What stands at a place of a line: a number, with the place after it, or no number.
 pub enum Taken {
     Number(u32, usize),
     Nothing,
 }
 
-// The place of the first byte from a place on that is no space.
-fn skip_spaces(line: &[u8], at: usize) -> usize
-    requires { ⌜ at ≤ length (now line) ⌝ }
-    ensures { λ r. ⌜ Between at (length (now (line .entry))) r ⌝ }
+// The place of the first byte from `from` on and before `to` that is `byte`, or that is not, as `is` says; `to`
+// where there is none.
+pub fn find(bytes: &[u8], from: usize, to: usize, byte: u8, is: bool) -> usize
+    requires { ⌜ from ≤ to ⌝ }
+    ensures { λ r. ⌜ Between from to r ⌝ }
 {
-    let mut i = at;
-    while i < line.len() {
-        if line[i] != b' ' {
+    let mut i = from;
+    while i < to {
+        if bytes.len() <= i {
+            return to;
+        }
+        if (bytes[i] == byte) == is {
             return i;
         }
         i += 1;
     }
-    i
-}
-
-// The place of the first space from a place on.
-fn find_space(line: &[u8], at: usize) -> usize
-    requires { ⌜ at ≤ length (now line) ⌝ }
-    ensures { λ r. ⌜ Between at (length (now (line .entry))) r ⌝ }
-{
-    let mut i = at;
-    while i < line.len() {
-        if line[i] == b' ' {
-            return i;
-        }
-        i += 1;
-    }
-    i
+    to
 }
 
 // The next field from a place on.
@@ -58,8 +47,8 @@ pub fn next_field(line: &[u8], at: usize) -> Field
             to: line.len(),
         };
     }
-    let from = skip_spaces(line, at);
-    let to = find_space(line, from);
+    let from = find(line, at, line.len(), b' ', false);
+    let to = find(line, from, line.len(), b' ', true);
     Field { from: from, to: to }
 }
 
@@ -111,19 +100,4 @@ pub fn last_word(line: &[u8], at: usize) -> Number {
         return Number::Not;
     }
     Number::Is(word)
-}
-
-// Whether two texts are the same.
-pub fn same(text: &[u8], other: &[u8]) -> bool {
-    if text.len() != other.len() {
-        return false;
-    }
-    let mut i: usize = 0;
-    while i < text.len() {
-        if text[i] != other[i] {
-            return false;
-        }
-        i += 1;
-    }
-    true
 }

@@ -18,15 +18,11 @@ module _ (row : ℕ) (rows : List ℕ) (bits : areBits (row ∷ rows) ≡ true) 
   pub other-bits : areBits rows ≡ true
   other-bits = and-eq-true-iff (ltb row 2) (areBits rows) .0 bits .1
 
--- each row is a bit, and back
+-- each row is a bit
 pub areBits-getD : (rows : List ℕ) → areBits rows ≡ true → (i : ℕ) → getD rows i 0 < 2
 areBits-getD [] bits i = omega arith
 areBits-getD (row ∷ rows) bits zero = first-bit row rows bits
 areBits-getD (row ∷ rows) bits (suc i) = areBits-getD rows (other-bits row rows bits) i
-
-pub getD-areBits : (rows : List ℕ) → ((i : ℕ) → getD rows i 0 < 2) → areBits rows ≡ true
-getD-areBits [] h = refl
-getD-areBits (row ∷ rows) h = rw (lt-ltb row 2 (h 0)) (getD-areBits rows (λ i. h (suc i)))
 
 pub areBits-append : (front back : List ℕ) → areBits (front ++ back) ≡ areBits front && areBits back
 areBits-append [] back = refl

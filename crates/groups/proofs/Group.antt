@@ -1,18 +1,20 @@
 -- One group: its bits, the bit under a mask, and the group of some rows. Assumes nothing.
 use mathlib.Core.Path.{_≡_, refl, _∙_, ap, sym}
-use mathlib.Core.Bool.{Bool, true, false, _&&_}
+use mathlib.Core.Bool.{true, _&&_}
+use mathlib.Core.Logic.{by-cases}
 use mathlib.Core.List.{List, [], _∷_, _++_}
 use Prim.Native.Nat.{ℕ, zero, suc, min, _+_, _*_, _-_, _/_, _%_, _^_, _<_, _≤_}
+use native.Mathlib.Decide.{decLt}
 use native.Mathlib.Omega.{arith}
 use native.Mathlib.Nat.{zero-add, zero-mul, sub-zero, zero-sub, suc-sub-suc, zero-div, mod-one, mod-eq-of-lt, le-mul-of-pos-right, pow-suc, pow-succ', div-self, div-eq-of-lt, mul-mod-left}
 use native.Mathlib.Numerals.{add-one, one-add}
 use lib.Arith.{digits-lt}
 use lib.Bits.{bitAnd, and-high}
-use lib.Dec.{eqb, ltb, eqb·suc-zero}
+use lib.Dec.{eqb, eqb·suc-zero}
 use lib.ListN.{length, getD, take, drop, set}
 use lib.Pow.{pow-add, pow-pos, pow-lt, shl-shr, mod-pow-add, mod-mod-pow, field, high, low}
 use lib.Seq.{take-nil, paste-suc}
-use borrow.Author.Tests.{lt-ltb, ltb-true, ltb-false, ne-eqb}
+use borrow.Author.Tests.{lt-ltb, ne-eqb}
 use Rattle.groups.specs.Rows.{areBits, groupOf, bitsOf, allZero}
 use Rattle.groups.proofs.Bits.{first-bit, other-bits}
 
@@ -23,14 +25,12 @@ pub power-bit : (i : ℕ) → 2 ^ i / 2 ^ i % 2 ≡ 1
 power-bit i = rw (div-self (pow-pos i)) refl
 
 pub power-other : (i j : ℕ) → (i ≡ j → ⊥) → 2 ^ i / 2 ^ j % 2 ≡ 0
-power-other i j e = go (ltb i j) refl
-  where
-    go : (t : Bool) → ltb i j ≡ t → 2 ^ i / 2 ^ j % 2 ≡ 0
-    go true p = rw (div-eq-of-lt (pow-lt (ltb-true i j p))) refl
-    go false p =
-        let h : j ≤ i = ltb-false i j p in
-        let split : i ≡ suc (i - suc j) + j = omega arith in
-        rw (split, pow-add, shl-shr, pow-suc) (mul-mod-left (2 ^ (i - suc j)) 2)
+power-other i j e =
+    by-cases (decLt i j)
+    (λ below. rw (div-eq-of-lt (pow-lt below)) refl)
+    (λ above.
+    let split : i ≡ suc (i - suc j) + j = omega arith in
+    rw (split, pow-add, shl-shr, pow-suc) (mul-mod-left (2 ^ (i - suc j)) 2))
 
 -- bit k, and what lies below it
 pub bit-above : (n k : ℕ) → n % 2 ^ suc k ≡ n / 2 ^ k % 2 * 2 ^ k + n % 2 ^ k
@@ -136,6 +136,3 @@ bit-groupOf (suc k) (suc i) (row ∷ rows) bits h =
     rw suc-sub-suc
     (bit-below group (suc k) (k - i) (omega arith)
     ∙ rw (low row (suc k) (groupOf-lt (suc k) rows others)) (bit-groupOf k i rows others (omega arith)))
-
-pub bitsOf-groupOf : (k i : ℕ) (rows : List ℕ) → areBits rows ≡ true → i < suc k → getD (bitsOf (suc k) (groupOf (suc k) rows)) i 0 ≡ getD rows i 0
-bitsOf-groupOf k i rows bits h = getD-bitsOf k (groupOf (suc k) rows) i h ∙ bit-groupOf k i rows bits h

@@ -1,15 +1,16 @@
 -- The groups of some rows and the rows of some groups: how many, the next one, and each one by its number. Assumes nothing.
 use mathlib.Core.Path.{_≡_, refl, _∙_, ap, ap₂, sym}
-use mathlib.Core.Bool.{Bool, true, false}
+use mathlib.Core.Bool.{true}
+use mathlib.Core.Logic.{by-cases}
 use mathlib.Core.List.{List, [], _∷_, _++_, append-assoc}
 use Prim.Native.Nat.{ℕ, zero, suc, min, _+_, _*_, _-_, _/_, _%_, _<_, _≤_}
+use native.Mathlib.Decide.{decLt}
 use native.Mathlib.Omega.{arith}
 use native.Mathlib.Nat.{zero-div}
-use lib.Dec.{ltb, leb}
 use lib.ListN.{length, getD, take, drop, replicate, length-append, length-drop, drop-of-length-le, List·getD-append, List·getD-eq-default}
 use lib.Seq.{drop-drop, getD-drop, getD-append-add}
-use borrow.Author.Tests.{ltb-true, ltb-false, leb-true, leb-false}
-use Rattle.groups.specs.Rows.{areBits, groupsFor, groupOf, cut, groupsOf, bitsOf, Groups, rowsOf, rowAt}
+use Rattle.groups.specs.Rows.{areBits, groupsFor, groupOf, cut, groupsOf, bitsOf, rowsOf, rowAt}
+use Rattle.groups.specs.Inner.{Groups}
 use Rattle.groups.proofs.Bits.{areBits-append, areBits-drop}
 use Rattle.groups.proofs.Group.{getD-bitsOf, areBits-bitsOf, groupOf-lt, groupOf-take}
 
@@ -38,7 +39,7 @@ getD-groupsOf rows i = getD-cut (groupsFor (length rows)) i rows (omega arith)
 pub groupsOf-lt : (rows : List ℕ) → areBits rows ≡ true → (i : ℕ) → getD (groupsOf rows) i 0 < 0x80000000
 groupsOf-lt rows bits i = rw getD-groupsOf (groupOf-lt 31 (drop (31 * i) rows) (areBits-drop (31 * i) rows bits))
 
-pub groupsOf-step : (rows : List ℕ) → 0 < length rows → groupsOf rows ≡ groupOf 31 rows ∷ groupsOf (drop 31 rows)
+groupsOf-step : (rows : List ℕ) → 0 < length rows → groupsOf rows ≡ groupOf 31 rows ∷ groupsOf (drop 31 rows)
 unfolding groupsOf
 groupsOf-step rows h = ap (λ (count : ℕ). cut count rows) one-more
   where
@@ -46,15 +47,10 @@ groupsOf-step rows h = ap (λ (count : ℕ). cut count rows) one-more
     one-more = omega (arith, length-drop 31 rows)
 
 drop-min : (n : ℕ) (rows : List ℕ) → drop n rows ≡ drop (min n (length rows)) rows
-drop-min n rows = go (leb n (length rows)) refl
-  where
-    go : (t : Bool) → leb n (length rows) ≡ t → drop n rows ≡ drop (min n (length rows)) rows
-    go true e =
-        let same : min n (length rows) ≡ n = omega (arith, leb-true n (length rows) e) in
-        rw same refl
-    go false e =
-        let h : length rows < n = leb-false n (length rows) e in
-        drop-of-length-le rows {i = n} (omega arith) ∙ sym (drop-of-length-le rows {i = min n (length rows)} (omega arith))
+drop-min n rows =
+    by-cases (decLt n (length rows))
+    (λ h. let same : min n (length rows) ≡ n = omega arith in rw same refl)
+    (λ h. drop-of-length-le rows {i = n} (omega arith) ∙ sym (drop-of-length-le rows {i = min n (length rows)} (omega arith)))
 
 -- the loop that takes rows from place `at` up to `end`, 31 of them or those that are left: its next group, and its end
 pub groupsOf-next : (rows : List ℕ) (at end : ℕ) → at < length rows → end ≡ min (at + 31) (length rows)
@@ -86,24 +82,20 @@ areBits-rowsOf (group ∷ groups) = areBits-append (bitsOf 31 group) (rowsOf gro
 -- THEOREM: each row of some groups stands where document 01 says, also past the last one
 pub getD-rowsOf : (groups : List ℕ) (row : ℕ) → getD (rowsOf groups) row 0 ≡ rowAt groups row
 getD-rowsOf [] row = rw zero-div refl
-getD-rowsOf (group ∷ groups) row = go (ltb row 31) refl (getD-rowsOf groups (row - 31))
-  where
-    go : (t : Bool) → ltb row 31 ≡ t → getD (rowsOf groups) (row - 31) 0 ≡ rowAt groups (row - 31)
-        → getD (bitsOf 31 group ++ rowsOf groups) row 0 ≡ rowAt (group ∷ groups) row
-    go true e later =
-        let h : row < 31 = ltb-true row 31 e in
-        let first : row / 31 ≡ 0 = omega arith in
-        let place : row % 31 ≡ row = omega arith in
-        List·getD-append (bitsOf 31 group) (rowsOf groups) 0 row h ∙ getD-bitsOf 30 group row h ∙ rw (first, place) refl
-    go false e later =
-        let h : 31 ≤ row = ltb-false row 31 e in
-        let further : row ≡ 31 + (row - 31) = omega arith in
-        let next : row / 31 ≡ suc ((row - 31) / 31) = omega arith in
-        let place : row % 31 ≡ (row - 31) % 31 = omega arith in
-        ap (λ (r : ℕ). getD (bitsOf 31 group ++ rowsOf groups) r 0) further
-        ∙ getD-append-add (bitsOf 31 group) (rowsOf groups) (row - 31) 0
-        ∙ later
-        ∙ rw (next, place) refl
+getD-rowsOf (group ∷ groups) row =
+    by-cases (decLt row 31)
+    (λ h.
+    let first : row / 31 ≡ 0 = omega arith in
+    let place : row % 31 ≡ row = omega arith in
+    List·getD-append (bitsOf 31 group) (rowsOf groups) 0 row h ∙ getD-bitsOf 30 group row h ∙ rw (first, place) refl)
+    (λ h.
+    let further : row ≡ 31 + (row - 31) = omega arith in
+    let next : row / 31 ≡ suc ((row - 31) / 31) = omega arith in
+    let place : row % 31 ≡ (row - 31) % 31 = omega arith in
+    ap (λ (r : ℕ). getD (bitsOf 31 group ++ rowsOf groups) r 0) further
+    ∙ getD-append-add (bitsOf 31 group) (rowsOf groups) (row - 31) 0
+    ∙ getD-rowsOf groups (row - 31)
+    ∙ rw (next, place) refl)
 
 -- no row past the last is 1
 pub rowAt-past : (groups : List ℕ) (row : ℕ) → 31 * length groups ≤ row → rowAt groups row ≡ 0
@@ -118,7 +110,7 @@ getD-zeros (suc count) (suc i) = getD-zeros count i
 pub rowAt-zeros : (count row : ℕ) → rowAt (replicate count 0) row ≡ 0
 rowAt-zeros count row = rw (getD-zeros count (row / 31), zero-div) refl
 
--- ---- groups of 31 bits: in a part, one list behind another, and zeros
+-- ---- groups of 31 bits: in a part, one list after another, and zeros
 
 pub groups-take : (count : ℕ) (groups : List ℕ) → Groups groups → Groups (take count groups)
 groups-take zero groups small i = omega arith

@@ -1,14 +1,14 @@
 -- Rows and groups say the same: rows cut into groups and taken back are the rows, and groups likewise. Assumes nothing.
 use mathlib.Core.Path.{_≡_, refl, _∙_, ap, sym}
-use mathlib.Core.Bool.{Bool, true, false}
+use mathlib.Core.Bool.{true}
+use mathlib.Core.Logic.{by-cases}
 use mathlib.Core.List.{List}
 use Prim.Native.Nat.{ℕ, _+_, _*_, _-_, _/_, _%_, _^_, _<_, _≤_}
+use native.Mathlib.Decide.{decLt}
 use native.Mathlib.Omega.{arith}
 use native.Mathlib.Nat.{mod-eq-of-lt}
-use lib.Dec.{ltb}
 use lib.ListN.{length, getD, take, drop, drop-of-length-le, List·getD-eq-default}
 use lib.Seq.{length-take-le, take-all, getD-take, getD-drop, ext-getD}
-use borrow.Author.Tests.{ltb-true, ltb-false}
 use Rattle.groups.specs.Rows.{areBits, groupsFor, groupOf, groupsOf, bitsOf, rowsOf, rowAt, clearFrom}
 use Rattle.groups.proofs.Bits.{areBits-take, areBits-drop}
 use Rattle.groups.proofs.Group.{getD-bitsOf, groupOf-bitsOf, bit-groupOf}
@@ -80,13 +80,11 @@ groups-back count groups h e clear = same-groups (groupsOf rows) groups (groupsO
     long = length-groupsOf rows ∙ ap groupsFor full ∙ sym e
 
     each : (row : ℕ) → rowAt (groupsOf rows) row ≡ rowAt groups row
-    each row = rowAt-groupsOf rows bits row ∙ go (ltb row count) refl
-      where
-        go : (t : Bool) → ltb row count ≡ t → getD rows row 0 ≡ rowAt groups row
-        go true l = getD-take count (rowsOf groups) row 0 (ltb-true row count l) ∙ getD-rowsOf groups row
-        go false l =
-            let past : count ≤ row = ltb-false row count l in
-            List·getD-eq-default rows 0 (omega (arith, full)) ∙ sym (clearFrom-rowAt count groups clear row past)
+    each row =
+        rowAt-groupsOf rows bits row
+        ∙ by-cases (decLt row count)
+        (λ before. getD-take count (rowsOf groups) row 0 before ∙ getD-rowsOf groups row)
+        (λ past. List·getD-eq-default rows 0 (omega (arith, full)) ∙ sym (clearFrom-rowAt count groups clear row (omega arith)))
 
 -- groups are the groups of all their rows
 pub groups-whole : (groups : List ℕ) → ((i : ℕ) → getD groups i 0 < 0x80000000) → groupsOf (rowsOf groups) ≡ groups

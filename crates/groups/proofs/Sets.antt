@@ -1,4 +1,4 @@
--- A write of some words at a place: what stands before it, in it and behind it. Assumes nothing.
+-- A write of some words at a place: what stands before it, in it and after it. Assumes nothing.
 use mathlib.Core.Path.{_≡_, refl, _∙_, ap, sym}
 use mathlib.Core.List.{List, [], _∷_, _++_}
 use Prim.Native.Nat.{ℕ, suc, _+_, _<_, _≤_}
@@ -21,7 +21,7 @@ module _ (out : List ℕ) (at count : ℕ) (words : List ℕ) (long : length wor
   pub sets-behind : drop (at + count) (sets out at words) ≡ drop (at + count) out
   sets-behind = ap (drop (at + count)) split ∙ drop-at (take at out ++ words) (drop (at + count) out) (at + count) front-length
 
--- some words and others behind them
+-- some words and others after them
 pub sets-append : (out : List ℕ) (at : ℕ) (words more : List ℕ) → sets out at (words ++ more) ≡ sets (sets out at words) (at + length words) more
 sets-append out at [] more = rw add-zero refl
 sets-append out at (word ∷ words) more =

@@ -7,7 +7,7 @@ use native.Mathlib.Nat.{sub-zero, suc-sub-suc}
 use lib.ListN.{getD}
 
 -- the k powers of 2 from 2 to the k - 1 down to 1
-abbrev pub masks : ℕ → List ℕ
+abbrev masks : ℕ → List ℕ
 masks zero = []
 masks (suc k) = 2 ^ k ∷ masks k
 

@@ -9,7 +9,8 @@ use lib.Dec.{eqb}
 use lib.ListN.{length, getD, drop, replicate}
 use lib.Seq.{drop-nil, drop-append-add, getD-drop}
 use borrow.Author.Tests.{eqb-true, eq-eqb}
-use Rattle.groups.specs.Rows.{bitsOf, Groups, rowsOf, rowAt, allZero, clearFrom}
+use Rattle.groups.specs.Rows.{bitsOf, rowsOf, rowAt, allZero, clearFrom}
+use Rattle.groups.specs.Inner.{Groups}
 use Rattle.groups.proofs.Group.{drop-bitsOf, allZero-bitsOf}
 use Rattle.groups.proofs.Groups.{getD-rowsOf}
 use Rattle.groups.proofs.Zeros.{allZero-append}

@@ -1,4 +1,4 @@
--- Lists of zeros: that all words are 0 as the bits of all of them together show it, and zeros behind a list. Assumes nothing.
+-- Lists of zeros: that all words are 0 as the bits of all of them together show it, and zeros after a list. Assumes nothing.
 use mathlib.Core.Path.{_≡_, refl, ap, sym}
 use mathlib.Core.Bool.{Bool, true, false, _&&_, and-assoc, and-true}
 use mathlib.Core.List.{List, [], _∷_, _++_}
@@ -28,12 +28,12 @@ gathered-more words gathered i h = rw (drop-cons words i 0 h, add-one, ← both-
 pub gathered-all : (words : List ℕ) (gathered i : ℕ) → length words ≤ i → eqb gathered 0 && allZero (drop i words) ≡ eqb gathered 0
 gathered-all words gathered i h = rw (drop-of-length-le words h) (and-true (eqb gathered 0))
 
--- one list behind another
+-- one list after another
 pub allZero-append : (front back : List ℕ) → allZero (front ++ back) ≡ allZero front && allZero back
 allZero-append [] back = refl
 allZero-append (row ∷ front) back = rw (allZero-append front back, and-assoc) refl
 
--- zeros behind a list
+-- zeros after a list
 zeros-from : (i count : ℕ) → allZero (drop i (replicate count 0)) ≡ true
 zeros-from zero zero = refl
 zeros-from (suc i) zero = refl

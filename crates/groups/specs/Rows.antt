@@ -1,7 +1,7 @@
 -- Document 01, "Words and groups": rows and their groups of 31. A row is the number 0 or 1, as its byte is.
-use mathlib.Core.Bool.{Bool, true, false, _&&_}
+use mathlib.Core.Bool.{Bool, true, _&&_}
 use mathlib.Core.List.{List, [], _∷_, _++_}
-use Prim.Native.Nat.{ℕ, zero, suc, _+_, _*_, _-_, _/_, _%_, _^_, _<_}
+use Prim.Native.Nat.{ℕ, zero, suc, _+_, _*_, _-_, _/_, _%_, _^_}
 use lib.Dec.{ltb, eqb}
 use lib.ListN.{length, getD, drop}
 
@@ -42,10 +42,6 @@ groupsOf rows = cut (groupsFor (length rows)) rows
 abbrev pub bitsOf : ℕ → ℕ → List ℕ
 bitsOf zero group = []
 bitsOf (suc k) group = group / 2 ^ k % 2 ∷ bitsOf k group
-
--- each of some groups has 31 bits
-abbrev pub Groups : List ℕ → Type 0
-Groups groups = (i : ℕ) → getD groups i 0 < 0x80000000
 
 -- the rows of some groups, 31 a group
 abbrev pub rowsOf : List ℕ → List ℕ

@@ -6,7 +6,7 @@ ghost use Prim.Native.Nat.{_+_, _/_, _%_, _^_, _<_, _≤_};
 ghost use lib.ListN.{length, drop};
 ghost use lib.Seq.{sets};
 ghost use Rattle.groups.specs.Rows.{areBits, groupOf, bitsOf};
-ghost use Rattle.groups.specs.Bytes.{fourBytes, bytesOf};
+ghost use Rattle.groups.specs.Inner.{fourBytes, bytesOf};
 
 pub fn wide(byte: u8) -> u32
     ensures { λ r. ⌜ (r ≡ byte) × (r < 256) ⌝ }

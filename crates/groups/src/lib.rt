@@ -2,5 +2,5 @@
 // from its rows' bytes and back, and one row of a group.
 //
 // Nothing stands below it. It knows no words, runs or lists.
-pub mod eights;
+mod eights;
 pub mod rows;

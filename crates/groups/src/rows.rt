@@ -12,7 +12,7 @@ use crate::eights::wide;
 // The most rows a list can have.
 pub const ROW_LIMIT: usize = 126976;
 
-// The most groups: those of as many rows.
+// The most groups a list can have: those of as many rows.
 pub const GROUP_LIMIT: usize = 4096;
 
 // Entry i is the mask of row i of a group: 2 to the 30 - i.
@@ -92,7 +92,7 @@ pub fn all_zero(words: &[u32]) -> bool
     gathered == 0
 }
 
-// The group of 31 rows, three times eight and seven: the last eight begin with a row that is there.
+// The group of 31 rows, three times eight and seven: the last eight begin with a row that is there already.
 fn whole_group(rows: &[u8]) -> u32
     requires { ⌜ (areBits (now rows) ≡ true) × (length (now rows) ≡ 31) ⌝ }
     ensures { λ r. ⌜ r ≡ groupOf 31 (now (rows .entry)) ⌝ }
@@ -101,7 +101,7 @@ fn whole_group(rows: &[u8]) -> u32
     front * 128 + eight_rows(rows, 23) % 128
 }
 
-// The group of at most 31 rows, one after the other.
+// The group of at most 31 rows, gathered one after the other.
 fn short_group(rows: &[u8]) -> u32
     requires { ⌜ (areBits (now rows) ≡ true) × (length (now rows) ≤ 31) ⌝ }
     ensures { λ r. ⌜ r ≡ groupOf 31 (now (rows .entry)) ⌝ }
@@ -128,10 +128,18 @@ pub fn group_of(rows: &[u8]) -> u32
 }
 
 // The row of a group that stands under a mask.
-fn under(group: u32, mask: u32) -> u8
+pub fn under(group: u32, mask: u32) -> u8
     ensures { λ r. ⌜ ((k : ℕ) → mask ≡ 2 ^ k → r ≡ group / 2 ^ k % 2) ⌝ }
 {
     if group & mask == 0 { 0 } else { 1 }
+}
+
+// The mask of row i of a group.
+pub fn mask_of(i: usize) -> u32
+    requires { ⌜ i < 31 ⌝ }
+    ensures { λ r. ⌜ r ≡ 2 ^ (30 - i) ⌝ }
+{
+    MASKS[i]
 }
 
 // Row i of a group.
@@ -139,10 +147,10 @@ pub fn row_of(group: u32, i: usize) -> u8
     requires { ⌜ i < 31 ⌝ }
     ensures { λ r. ⌜ r ≡ group / 2 ^ (30 - i) % 2 ⌝ }
 {
-    under(group, MASKS[i])
+    under(group, mask_of(i))
 }
 
-// Writes the 31 rows of a group, eight at a time; the last eight begin with a row that is there.
+// Writes the 31 rows of a group, eight at a time; the last eight begin with a row that is there already.
 fn put_whole(out: &mut [u8], group: u32)
     requires { ⌜ length (now out) ≡ 31 ⌝ }
     ensures { λ _. ⌜ now (out .exit) ≡ bitsOf 31 group ⌝ }

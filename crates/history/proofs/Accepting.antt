@@ -4,9 +4,9 @@ use mathlib.Core.Bool.{true, false}
 use mathlib.Core.List.{List, [], _∷_}
 use Rattle.answers.specs.Outcome.{Check, _when_}
 use Rattle.answers.proofs.Accepted.{Passes, no-zero}
-use Rattle.steps.specs.Memory.{Memory}
-use Rattle.steps.specs.Outcomes.{After, change}
-use Rattle.steps.specs.declared.header.Header.{Header}
+use Rattle.memory.specs.Memory.{Memory}
+use Rattle.memory.specs.Outcomes.{After, change}
+use Rattle.memory.specs.declared.header.Header.{Header}
 
 -- number 0 is given only where no check refuses, and there the change is made
 pub change-accepted : (checks : List Check) (back : Header) (memory : Memory) (after : After)

@@ -9,28 +9,28 @@ use native.Mathlib.Omega.{arith}
 use lib.Dec.{eqb}
 use lib.ListN.{length}
 use borrow.Author.Tests.{eq-eqb, ne-eqb}
+use Rattle.groups.specs.Inner.{Groups}
 use Rattle.groups.specs.Rows.{rowAt}
-use Rattle.words.specs.Words.{encode}
-use Rattle.words.proofs.Canonical.{canonical-parts}
 use Rattle.groups.proofs.RowsBack.{same-groups}
-use Rattle.words.proofs.Round.{Groups, decode-groups}
-use Rattle.blocks.specs.Shape.{Limits}
-use Rattle.blocks.specs.Block.{current}
-use Rattle.listings.specs.Column.{groupsWith, listFor}
+use Rattle.words.proofs.Canonical.{canonical-parts}
+use Rattle.words.proofs.Round.{decode-groups}
+use Rattle.blocks.specs.Inner.{Limits}
 use Rattle.blocks.specs.Whole.{wholeLists}
-use Rattle.blocks.specs.declared.shape.Shape.{Shape}
-use Rattle.listings.proofs.Columns.{row-held, row-past, decode-listFor, canonical-listFor}
-use Rattle.blocks.proofs.WholeLists.{length-current, decode-current}
-use Rattle.steps.specs.Memory.{Memory, shapeOf, rowsIn, blockAt}
+use Rattle.blocks.specs.declared.sizes.Sizes.{Sizes}
+use Rattle.blocks.proofs.WholeLists.{length-current, current-lt}
+use Rattle.load_list.specs.Column.{groupsWith, listFor}
+use Rattle.load_list.proofs.Columns.{row-held, row-past, decode-listFor, canonical-listFor}
+use Rattle.memory.specs.Memory.{Memory, sizesOf, rowsIn, blockAt}
+use Rattle.memory.specs.declared.header.Header.{Header}
+use Rattle.memory.proofs.Headers.{Within, within}
 use Rattle.index.specs.Soundness.{Sound}
-use Rattle.steps.specs.declared.header.Header.{Header}
-use Rattle.steps.proofs.Headers.{Within, within}
 use Rattle.index.proofs.Holders.{NoHolder}
 use Rattle.history.specs.Calls.{Index, indexOf}
 use Rattle.history.specs.Plain.{Plain, headerOf, byteAt}
 use Rattle.history.specs.History.{Agrees}
 use Rattle.history.proofs.ColumnBytes.{value-or-deleted, byte-there, byte-past}
-use Rattle.history.proofs.Sound.{sound-limits, sound-whole}
+use Rattle.history.proofs.Sound.{sound-limits}
+use Rattle.history.proofs.SoundBlocks.{lists-whole}
 
 -- a memory under the header of a column
 abbrev pub over : Plain → Memory → Index
@@ -54,23 +54,20 @@ module _ (plain : Plain) (memory : Memory) (agrees : Agrees (over plain memory) 
   numbers = within header (agrees .sound .within)
 
   -- the column fits R, and values are below 255
-  pub column-fits : length (plain .column) ≤ plain .rows
-  column-fits = numbers .fewIssued
-
   pub row-fits : (row : ℕ) → row < length (plain .column) → row < plain .rows
-  row-fits row h = omega (arith, column-fits)
+  row-fits row h = omega (arith, numbers .fewIssued)
 
   pub value-small : (value : ℕ) → value < plain .values → value < 255
   value-small value h = omega (arith, numbers .fewValues)
 
   -- THEOREM: the row of a live byte is in its value
   pub row-live : (row : ℕ) → byteAt (plain .column) row < plain .values
-      → rowAt (rowsIn (headerOf plain) (memory .words) (byteAt (plain .column) row)) row ≡ 1
+      → rowAt (rowsIn (sizesOf (headerOf plain)) (memory .words) (byteAt (plain .column) row)) row ≡ 1
   row-live row h = agrees .rows row (byteAt column row) h ∙ rw (eq-eqb (byteAt column row) (byteAt column row) refl) refl
 
   -- THEOREM: a row is in no value but that of its byte
   pub row-other : (row value : ℕ) → value < plain .values → (byteAt (plain .column) row ≡ value → ⊥)
-      → rowAt (rowsIn (headerOf plain) (memory .words) value) row ≡ 0
+      → rowAt (rowsIn (sizesOf (headerOf plain)) (memory .words) value) row ≡ 0
   row-other row value h differ = agrees .rows row value h ∙ rw (ne-eqb (byteAt column row) value differ) refl
 
   -- THEOREM: a deleted row is in none
@@ -85,53 +82,53 @@ module _ (plain : Plain) (memory : Memory) (agrees : Agrees (over plain memory) 
 -- ---- in groups
 
 module _ (plain : Plain) (memory : Memory) (sound : Sound (headerOf plain) memory) (value : ℕ) (h : value < plain .values) where
-  abbrev shape : Shape
-  shape = shapeOf (headerOf plain)
+  abbrev sizes : Sizes
+  sizes = sizesOf (headerOf plain)
 
   abbrev bytes : List ℕ
   bytes = plain .column
 
   abbrev block : List ℕ
-  block = blockAt (headerOf plain) (memory .words) value
+  block = blockAt sizes (memory .words) value
 
-  limits : Limits (shapeOf (headerOf plain))
+  limits : Limits sizes
   limits = sound-limits (headerOf plain) memory sound
 
-  whole : wholeLists (shapeOf (headerOf plain)) block ≡ true
-  whole = sound-whole (headerOf plain) memory sound value h
+  whole : wholeLists sizes block ≡ true
+  whole = lists-whole (sound .lists value h)
 
-  fits : length (plain .column) ≤ plain .rows
+  fits : length bytes ≤ plain .rows
   fits = within (headerOf plain) (sound .within) .fewIssued
 
   -- THEOREM: a row is 1 in the column's groups of a value exactly where its byte is the value
-  pub row-with : (row : ℕ) → rowAt (groupsWith (shapeOf (headerOf plain)) value (plain .column)) row ≡ cond (eqb (byteAt (plain .column) row) value) 1 0
+  pub row-with : (row : ℕ) → rowAt (groupsWith sizes value bytes) row ≡ cond (eqb (byteAt bytes row) value) 1 0
   row-with row =
       by-cases (decLt row (length bytes))
-      (λ there. rw (← byte-there bytes row there) (row-held shape limits value bytes fits row there))
+      (λ there. rw (← byte-there bytes row there) (row-held sizes limits value bytes fits row there))
       (λ past.
-      let behind : length bytes ≤ row = omega (arith, past) in
-      let deleted : byteAt bytes row ≡ value → ⊥ = λ same. omega (arith, byte-past bytes row behind, within (headerOf plain) (sound .within) .fewValues) in
-      rw (ne-eqb (byteAt bytes row) value deleted) (row-past shape limits value bytes fits row behind))
+      let beyond : length bytes ≤ row = omega (arith, past) in
+      let deleted : byteAt bytes row ≡ value → ⊥ = λ same. omega (arith, byte-past bytes row beyond, within (headerOf plain) (sound .within) .fewValues) in
+      rw (ne-eqb (byteAt bytes row) value deleted) (row-past sizes limits value bytes fits row beyond))
 
-  small-with : Groups (groupsWith (shapeOf (headerOf plain)) value (plain .column))
-  small-with = rw (← decode-listFor shape limits value bytes fits) (decode-groups (listFor shape value bytes))
+  small-with : Groups (groupsWith sizes value bytes)
+  small-with = rw (← decode-listFor sizes limits value bytes fits) (decode-groups (listFor sizes value bytes))
 
-  long-with : length (groupsWith (shapeOf (headerOf plain)) value (plain .column)) ≡ shapeOf (headerOf plain) .groups
+  long-with : length (groupsWith sizes value bytes) ≡ sizes .groups
   long-with =
-      ap length (sym (decode-listFor shape limits value bytes fits))
-      ∙ canonical-parts (plain .rows) (listFor shape value bytes) (canonical-listFor shape limits value bytes fits) .long
+      ap length (sym (decode-listFor sizes limits value bytes fits))
+      ∙ canonical-parts (plain .rows) (listFor sizes value bytes) (canonical-listFor sizes limits value bytes fits) .long
 
-  small-rows : Groups (rowsIn (headerOf plain) (memory .words) value)
+  small-rows : Groups (rowsIn sizes (memory .words) value)
   unfolding rowsIn
-  small-rows = rw (← decode-current shape limits block whole) (decode-groups (encode (current shape block)))
+  small-rows = current-lt sizes limits block whole
 
-  long-rows : length (rowsIn (headerOf plain) (memory .words) value) ≡ shapeOf (headerOf plain) .groups
+  long-rows : length (rowsIn sizes (memory .words) value) ≡ sizes .groups
   unfolding rowsIn
-  long-rows = length-current shape limits block whole
+  long-rows = length-current sizes limits block whole
 
   -- THEOREM: a value that has just the column's rows has the column's groups
-  pub rows-with : ((row : ℕ) → rowAt (rowsIn (headerOf plain) (memory .words) value) row ≡ cond (eqb (byteAt (plain .column) row) value) 1 0)
-      → rowsIn (headerOf plain) (memory .words) value ≡ groupsWith (shapeOf (headerOf plain)) value (plain .column)
+  pub rows-with : ((row : ℕ) → rowAt (rowsIn sizes (memory .words) value) row ≡ cond (eqb (byteAt bytes row) value) 1 0)
+      → rowsIn sizes (memory .words) value ≡ groupsWith sizes value bytes
   rows-with each =
-      same-groups (rowsIn (headerOf plain) (memory .words) value) (groupsWith shape value bytes) small-rows small-with (long-rows ∙ sym long-with)
+      same-groups (rowsIn sizes (memory .words) value) (groupsWith sizes value bytes) small-rows small-with (long-rows ∙ sym long-with)
       (λ row. each row ∙ sym (row-with row))

@@ -11,13 +11,12 @@ use lib.Seq.{take-length, take-suc}
 use borrow.Author.Tests.{leb-false}
 use Rattle.answers.specs.Outcome.{_when_, Outcome, outcome}
 use Rattle.answers.specs.declared.Refusal.the-variants.{OutSmall}
-use Rattle.steps.specs.Memory.{Memory, every}
-use Rattle.steps.specs.Reading.{rowOf, isDamaged}
+use Rattle.memory.specs.Memory.{Memory, every}
+use Rattle.memory.specs.Reading.{rowOf, isDamaged}
+use Rattle.memory.specs.declared.header.Header.{Header}
+use Rattle.fence_records.proofs.Every.{holds-every}
 use Rattle.index.specs.Soundness.{Sound}
-use Rattle.index.specs.Calls.{whole, queryList, queryOutcome, byteOf, bytesOf, dumpOutcome, auditOutcome}
-use Rattle.steps.specs.declared.header.Header.{Header}
-use Rattle.values.proofs.Altering.{either}
-use Rattle.fences.proofs.Every.{holds-every}
+use Rattle.index.specs.Calls.{queryList, queryOutcome, byteOf, bytesOf, dumpOutcome, auditOutcome}
 use Rattle.history.specs.Calls.{Call, Query, Dump, Audit, Reply, answering, obey, replied}
 use Rattle.history.specs.Plain.{Plain, headerOf, byteAt, PlainReply, writing, plainList, plainBadValue, plainly}
 use Rattle.history.specs.History.{Agrees, Good}
@@ -25,6 +24,7 @@ use Rattle.history.proofs.Agreeing.{over, rows-with}
 use Rattle.history.proofs.Matching.{header-stays}
 use Rattle.history.proofs.ReadingAgrees.{FindsLive, FindsDeleted, finds-undamaged, finds-row}
 use Rattle.history.proofs.Sound.{sound-lent, sound-whole, says-sound}
+use Rattle.history.proofs.Tests.{either}
 
 module _ (plain : Plain) (memory : Memory) (agrees : Agrees (over plain memory) plain) where
   abbrev header : Header
@@ -50,7 +50,7 @@ module _ (plain : Plain) (memory : Memory) (agrees : Agrees (over plain memory) 
   query-is : (value : ℕ) (out : List ℕ)
       → queryOutcome (headerOf plain) memory value out
       ≡ outcome (plainBadValue plain value ∷ OutSmall when ltb (length out) (length (plainList plain value)) ∷ []) (plainList plain value) out
-  unfolding queryOutcome queryList whole plainList
+  unfolding queryOutcome queryList plainList
   query-is value out =
       either (leb (plain .values) value)
       (λ refused. rw (s .within, sound-lent header memory s, refused) refl)

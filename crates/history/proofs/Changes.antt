@@ -1,164 +1,96 @@
--- What a change of one value leaves: its new block and its fences made anew, as many words and fences, and every other value as it was. Assumes nothing.
+-- What a change of one value leaves: its new block with right fences, as many words and fences, and every other value as it was. Assumes nothing.
 use mathlib.Core.Path.{_≡_, refl, _∙_, ap, sym}
 use mathlib.Core.List.{List}
 use Prim.Native.Nat.{ℕ, zero, suc, _+_, _*_, _<_, _≤_}
-use native.Mathlib.Nat.{zero-add, add-zero}
+use native.Mathlib.Nat.{zero-add, add-zero, add-suc, suc-add}
 use native.Mathlib.Omega.{arith}
 use lib.ListN.{length, getD}
-use Rattle.blocks.specs.Shape.{blockSize, fenceCount}
-use Rattle.blocks.specs.Block.{part, write, valueList}
-use Rattle.readings.specs.Fences.{fenceAt}
-use Rattle.blocks.specs.declared.shape.Shape.{Shape}
-use Rattle.blocks.proofs.Blocks.{block-written, block-apart}
+use Rattle.blocks.specs.Sizes.{fenceCount}
+use Rattle.blocks.specs.Block.{valueList}
+use Rattle.blocks.specs.declared.sizes.Sizes.{Sizes}
 use Rattle.blocks.proofs.Parts.{getD-part, length-write, part-write, part-apart}
-use Rattle.blocks.proofs.Sizes.{places-apart}
-use Rattle.steps.specs.Memory.{Memory, shapeOf, blockAt, fencesAt}
-use Rattle.steps.specs.Fences.{noFence, fencesFrom}
-use Rattle.index.specs.Soundness.{Holds, FencesRight}
-use Rattle.index.specs.Calls.{withBlock, renewed}
-use Rattle.steps.specs.declared.header.Header.{Header}
-use Rattle.steps.specs.declared.header.Fence.{Fence}
+use Rattle.blocks.proofs.SizeLaws.{places-apart}
+use Rattle.block_read.specs.Fences.{fenceAt}
+use Rattle.block_read.specs.declared.fence.Fence.{Fence}
+use Rattle.memory.specs.Fences.{noFence, fencesFrom}
+use Rattle.memory.specs.Memory.{Memory, memoryOf, listAt, fencesAt}
+use Rattle.memory.proofs.FenceRecords.{length-fencesFrom}
+use Rattle.change_value.specs.Change.{renewed}
+use Rattle.change_value.proofs.Changing.{Puts}
+use Rattle.index.specs.Soundness.{FencesRight}
 
--- the memory after differs from that before in one value alone
-pub record OnlyValue (header : Header) (value : ℕ) (before after : Memory) : Type 0 where
-  pub long-words : length (after .words) ≡ length (before .words)
+-- the value has a new block, whose fences are right, there are as many words and fences, and every other value is as it was
+pub record Replaced (sizes : Sizes) (value : ℕ) (before after : Memory) (new : List ℕ) : Type 0 where
+  pub words : Puts sizes (before .words) value new (after .words)
   pub long-fences : length (after .fences) ≡ length (before .fences)
-  pub blocks : (other : ℕ) → (value ≡ other → ⊥) → blockAt header (after .words) other ≡ blockAt header (before .words) other
-  pub fences : (other : ℕ) → (value ≡ other → ⊥) → fencesAt header (after .fences) other ≡ fencesAt header (before .fences) other
-
--- two changes of the same value
-pub only-both : {header : Header} {value : ℕ} {before between after : Memory} → OnlyValue header value before between → OnlyValue header value between after
-    → OnlyValue header value before after
-only-both first second =
-    record {
-      long-words = second .long-words ∙ first .long-words;
-      long-fences = second .long-fences ∙ first .long-fences;
-      blocks = λ other differ. second .blocks other differ ∙ first .blocks other differ;
-      fences = λ other differ. second .fences other differ ∙ first .fences other differ;
-    }
+  pub right : FencesRight sizes after value
+  pub others : (other : ℕ) → (value ≡ other → ⊥) → fencesAt sizes (after .fences) other ≡ fencesAt sizes (before .fences) other
 
 -- fence j of a value is record v x F + j
-pub getD-fencesAt : (header : Header) (fences : List Fence) (value j : ℕ) → j < fenceCount (shapeOf header)
-    → getD (fencesAt header fences value) j noFence ≡ getD fences (value * fenceCount (shapeOf header) + j) noFence
+pub getD-fencesAt : (sizes : Sizes) (fences : List Fence) (value j : ℕ) → j < fenceCount sizes
+    → getD (fencesAt sizes fences value) j noFence ≡ getD fences (value * fenceCount sizes + j) noFence
 unfolding fencesAt
-getD-fencesAt header fences value j h = getD-part fences (value * fenceCount (shapeOf header)) (fenceCount (shapeOf header)) j noFence h
+getD-fencesAt sizes fences value j h = getD-part fences (value * fenceCount sizes) (fenceCount sizes) j noFence h
 
 -- the fences of another value are right as they were
-pub others-right : {header : Header} {value : ℕ} {before after : Memory} → OnlyValue header value before after
-    → (other : ℕ) → (value ≡ other → ⊥) → FencesRight header before other → FencesRight header after other
-others-right {header} {value} {before} {after} only other differ right j h =
-    rw (
-      ← getD-fencesAt header (after .fences) other j h,
-      only .fences other differ,
-      getD-fencesAt header (before .fences) other j h,
-      only .blocks other differ,
-    )
-    (right j h)
+pub others-right : {sizes : Sizes} {value : ℕ} {before after : Memory} {new : List ℕ} → Replaced sizes value before after new
+    → (other : ℕ) → (value ≡ other → ⊥) → FencesRight sizes before other → FencesRight sizes after other
+others-right {sizes} {value} {before} {after} replaces other differ right j h =
+    sym (getD-fencesAt sizes (after .fences) other j h)
+    ∙ ap (λ (fences : List Fence). getD fences j noFence) (replaces .others other differ)
+    ∙ getD-fencesAt sizes (before .fences) other j h
+    ∙ right j h
+    ∙ ap (λ (block : List ℕ). fenceAt sizes (valueList sizes block) j) (sym (replaces .words .others other differ))
 
 -- ---- fences made anew
 
-module _ (shape : Shape) (list : List ℕ) where
-  length-fencesFrom : (j count : ℕ) → length (fencesFrom shape list j count) ≡ count
-  length-fencesFrom j zero = refl
-  length-fencesFrom j (suc count) = ap suc (length-fencesFrom (suc j) count)
+getD-fencesFrom : (sizes : Sizes) (list : List ℕ) (j count i : ℕ) → i < count
+    → getD (fencesFrom sizes list j count) i noFence ≡ fenceAt sizes list (j + i)
+getD-fencesFrom sizes list j zero i h = absurd (omega arith)
+getD-fencesFrom sizes list j (suc count) zero h = rw add-zero refl
+getD-fencesFrom sizes list j (suc count) (suc i) h = rw (add-suc, ← suc-add) (getD-fencesFrom sizes list (suc j) count i (omega arith))
 
-  fencesFrom-hold : (j count i : ℕ) → i < count → Holds (getD (fencesFrom shape list j count) i noFence) (fenceAt shape list (j + i))
-  fencesFrom-hold j zero i h = absurd (omega arith)
-  fencesFrom-hold j (suc count) zero h = rw add-zero (record { place = refl; first = refl })
-  fencesFrom-hold j (suc count) (suc i) h =
-      let behind : j + suc i ≡ suc j + i = omega arith in
-      rw behind (fencesFrom-hold (suc j) count i (omega arith))
-
-module _ (header : Header) (memory : Memory) (value : ℕ) where
-  -- B and F
-  abbrev size : ℕ
-  size = blockSize (shapeOf header)
-
+module _ (sizes : Sizes) (words : List ℕ) (fences : List Fence) (value : ℕ) (room : value * fenceCount sizes + fenceCount sizes ≤ length fences) where
+  -- F
   abbrev many : ℕ
-  many = fenceCount (shapeOf header)
+  many = fenceCount sizes
 
-  -- ---- another block
+  -- the value's fences, made from its V
+  abbrev made : List Fence
+  made = fencesFrom sizes (listAt sizes words value) 0 many
 
-  module _ (inside : value * blockSize (shapeOf header) + blockSize (shapeOf header) ≤ length (memory .words)) (new : List ℕ)
-      (n : length new ≡ blockSize (shapeOf header)) where
-    -- THEOREM: the value has the block that was put
-    pub block-put : blockAt header (withBlock header memory value new .words) value ≡ new
-    unfolding blockAt withBlock
-    block-put = block-written (shapeOf header) (memory .words) (value * size) inside new n
+  long-made : length made ≡ many
+  long-made = length-fencesFrom sizes (listAt sizes words value) 0 many
 
-    -- THEOREM: every other value is as it was
-    pub block-only : OnlyValue header value memory (withBlock header memory value new)
-    unfolding blockAt withBlock
-    block-only =
-        record {
-          long-words = length-write (memory .words) (value * size) new (rw n inside);
-          long-fences = refl;
-          blocks = λ other differ.
-              block-apart (shapeOf header) (memory .words) (value * size) inside new n (other * size) (places-apart size value other differ);
-          fences = λ other differ. refl;
-        }
+  fits : value * many + length made ≤ length fences
+  fits = rw long-made room
 
-  -- ---- and its fences
-
-  -- the words stay
-  renewed-words : renewed header memory value .words ≡ memory .words
+  length-renewed : length (renewed sizes words fences value) ≡ length fences
   unfolding renewed
-  renewed-words = refl
+  length-renewed = length-write fences (value * many) made fits
 
-  module _ (inside : value * fenceCount (shapeOf header) + fenceCount (shapeOf header) ≤ length (memory .fences)) where
-    -- the value's fences, made from its V
-    abbrev made : List Fence
-    made = fencesFrom (shapeOf header) (valueList (shapeOf header) (blockAt header (memory .words) value)) 0 many
+  fences-made : fencesAt sizes (renewed sizes words fences value) value ≡ made
+  unfolding renewed fencesAt
+  fences-made = rw long-made at (part-write fences (value * many) made fits)
 
-    long-made : length made ≡ many
-    long-made = length-fencesFrom (shapeOf header) (valueList (shapeOf header) (blockAt header (memory .words) value)) 0 many
+  renewed-right : FencesRight sizes (memoryOf words (renewed sizes words fences value)) value
+  renewed-right j h =
+      sym (getD-fencesAt sizes (renewed sizes words fences value) value j h)
+      ∙ rw fences-made (rw zero-add at (getD-fencesFrom sizes (listAt sizes words value) 0 many j h))
 
-    fits : value * many + length made ≤ length (memory .fences)
-    fits = rw long-made inside
-
-    fences-made : fencesAt header (renewed header memory value .fences) value ≡ made
-    unfolding renewed fencesAt
-    fences-made = ap (part (write (memory .fences) (value * many) made) (value * many)) (sym long-made) ∙ part-write (memory .fences) (value * many) made fits
-
-    -- THEOREM: fences made anew are right
-    pub renewed-right : FencesRight header (renewed header memory value) value
-    renewed-right j h =
-        let list = valueList (shapeOf header) (blockAt header (memory .words) value) in
-        rw (← getD-fencesAt header (renewed header memory value .fences) value j h, fences-made, renewed-words)
-        (rw zero-add at (fencesFrom-hold (shapeOf header) list 0 many j h))
-
-    -- THEOREM: every other value is as it was
-    pub renewed-only : OnlyValue header value memory (renewed header memory value)
-    unfolding renewed fencesAt
-    renewed-only =
-        record {
-          long-words = refl;
-          long-fences = length-write (memory .fences) (value * many) made fits;
-          blocks = λ other differ. refl;
-          fences = λ other differ.
-              part-apart (memory .fences) (value * many) made fits (other * many) many (rw long-made (places-apart many value other differ));
-        }
-
--- ---- both
-
--- the value has a new block, whose fences are right, and every other value is as it was
-pub record Replaced (header : Header) (value : ℕ) (before after : Memory) (new : List ℕ) : Type 0 where
-  pub block : blockAt header (after .words) value ≡ new
-  pub only : OnlyValue header value before after
-  pub right : FencesRight header after value
+  renewed-others : (other : ℕ) → (value ≡ other → ⊥) → fencesAt sizes (renewed sizes words fences value) other ≡ fencesAt sizes fences other
+  unfolding renewed fencesAt
+  renewed-others other differ =
+      part-apart fences (value * many) made fits (other * many) many (rw long-made (places-apart many value other differ))
 
 -- THEOREM: a block that is put, and fences that are made anew
-pub replaced : (header : Header) (memory : Memory) (value : ℕ)
-    → value * blockSize (shapeOf header) + blockSize (shapeOf header) ≤ length (memory .words)
-    → value * fenceCount (shapeOf header) + fenceCount (shapeOf header) ≤ length (memory .fences)
-    → (new : List ℕ) → length new ≡ blockSize (shapeOf header)
-    → Replaced header value memory (renewed header (withBlock header memory value new) value) new
-replaced header memory value words fences new n =
-    let put = withBlock header memory value new in
-    let only = block-only header memory value words new n in
-    let room = rw (← only .long-fences) at fences in
+pub replaced : (sizes : Sizes) (memory : Memory) (value : ℕ) → value * fenceCount sizes + fenceCount sizes ≤ length (memory .fences)
+    → {new left : List ℕ} → Puts sizes (memory .words) value new left
+    → Replaced sizes value memory (memoryOf left (renewed sizes left (memory .fences) value)) new
+replaced sizes memory value room {new} {left} puts =
     record {
-      block = rw (renewed-words header put value) (block-put header memory value words new n);
-      only = only-both only (renewed-only header put value room);
-      right = renewed-right header put value room;
+      words = puts;
+      long-fences = length-renewed sizes left (memory .fences) value room;
+      right = renewed-right sizes left (memory .fences) value room;
+      others = renewed-others sizes left (memory .fences) value room;
     }

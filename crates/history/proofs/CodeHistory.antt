@@ -4,7 +4,7 @@ use mathlib.Core.List.{List, [], _∷_}
 use Prim.Native.Nat.{ℕ}
 use Rattle.answers.specs.Numbers.{Paper, paper}
 use Rattle.answers.specs.Outcome.{Outcome, Gives}
-use Rattle.steps.specs.Outcomes.{After, Leaves}
+use Rattle.memory.specs.Outcomes.{After, Leaves}
 use Rattle.index.specs.Calls.{loadAfter, queryOutcome, insertAfter, updateAfter, deleteAfter, mergeAfter, dumpOutcome, auditOutcome}
 use Rattle.history.specs.Calls.{Call, Load, Query, Value, Insert, Update, Delete, Merge, Dump, Audit, Index, indexOf, changing, answering, finding, obey}
 use Rattle.history.specs.Calls.{lastAccepted, replied, step, run}

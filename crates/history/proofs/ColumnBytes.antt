@@ -10,7 +10,7 @@ use lib.Dec.{ltb, eqb}
 use lib.ListN.{length, getD, set, length-append, List·getD-append, List·getD-eq-default}
 use lib.Seq.{getD-append-seam}
 use borrow.Author.Tests.{ltb-true, lt-ltb, eqb-true}
-use Rattle.steps.specs.Entry.{validByte, validColumn}
+use Rattle.memory.specs.Entry.{validByte, validColumn}
 use Rattle.history.specs.Plain.{byteAt}
 
 module _ (values : ℕ) where

@@ -15,10 +15,10 @@ use denote.Ref.{RefT, now}
 use denote.Triple.Clauses.{AtExit}
 use denote.Triple.Entry.{Args, Res}
 use Rattle.answers.specs.declared.Answer.{Answer}
-use Rattle.steps.specs.Memory.{memoryOf}
-use Rattle.steps.specs.declared.header.Changed.{Changed}
-use Rattle.steps.specs.declared.header.Fence.{Fence}
-use Rattle.steps.specs.declared.header.Header.{Header}
+use Rattle.block_read.specs.declared.fence.Fence.{Fence}
+use Rattle.memory.specs.Memory.{memoryOf}
+use Rattle.memory.specs.declared.header.Changed.{Changed}
+use Rattle.memory.specs.declared.header.Header.{Header}
 use Rattle.index.proofs.answering.query as query
 use Rattle.index.proofs.answering.value as value
 use Rattle.index.proofs.auditing.audit as audit

@@ -1,13 +1,8 @@
 -- What follows from the history theorem, by name: no damage, few ones, right fences, one value a row, few words opened, Query in rows. Assumes nothing.
-use mathlib.Core.Path.{_≡_, refl, _∙_, ap, sym}
-use mathlib.Core.Bool.{Bool, true, false, cond}
-use mathlib.Core.Logic.{inl, inr, ⊎-elim, _↔_}
-use Prim.Native.Nat.{ℕ}
-use native.Mathlib.Omega.{arith}
-use lib.Dec.{eqb}
+use mathlib.Core.Path.{_∙_, ap, sym}
+use mathlib.Core.Logic.{inl, inr, ⊎-elim}
 use lib.ListN.{length}
-use borrow.Author.Tests.{eqb-true, eq-eqb}
-use Rattle.steps.specs.Memory.{Memory}
+use Rattle.memory.specs.Memory.{Memory}
 use Rattle.history.specs.Calls.{Index, Said}
 use Rattle.history.specs.Plain.{Plain, headerOf, byteAt, plainLoaded, plainRun}
 use Rattle.history.specs.History.{Agrees, Always}
@@ -15,6 +10,7 @@ use Rattle.history.specs.Corollaries.{NoDamage, FewOnes, FencesLead, One
 use Rattle.history.proofs.Agreeing.{over, under-header, row-live, row-other, row-deleted, live-or-deleted}
 use Rattle.history.proofs.PlainUndamaged.{plain-undamaged}
 use Rattle.history.proofs.QueryInRows.{query-below, query-writes}
+use Rattle.history.proofs.Tests.{one-exactly}
 use Rattle.history.proofs.Theorem.{history}
 use Rattle.history.proofs.ValueAgrees.{value-finds, refused-opens, value-good}
 
@@ -59,14 +55,6 @@ opened-few =
       counts = λ h. value-finds plain memory agrees row h .opens;
       none = refused-opens plain memory agrees row;
     })
-
--- a test of 1 or 0 is 1 exactly where the numbers are equal
-one-exactly : (a b : ℕ) → (_≡_ {A = ℕ} (cond (eqb a b) 1 0) 1) ↔ (a ≡ b)
-one-exactly a b = (go (eqb a b) refl, λ same. rw (eq-eqb a b same) refl)
-  where
-    go : (test : Bool) → eqb a b ≡ test → _≡_ {A = ℕ} (cond test 1 0) 1 → a ≡ b
-    go true same one = eqb-true a b same
-    go false differ one = absurd (omega arith)
 
 -- THEOREM: a row is in an accepted Query's list exactly when the column's byte is the value
 pub query-rows : Always QueryRows

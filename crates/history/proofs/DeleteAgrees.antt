@@ -8,12 +8,13 @@ use lib.ListN.{length, set}
 use borrow.Author.Tests.{leb-false}
 use Rattle.answers.specs.Outcome.{_when_}
 use Rattle.answers.specs.declared.Refusal.the-variants.{Damaged, Gone}
-use Rattle.steps.specs.Memory.{Memory}
-use Rattle.steps.specs.Reading.{rowOf, isDamaged, isDeleted}
-use Rattle.steps.specs.Outcomes.{made}
+use Rattle.memory.specs.Memory.{Memory, sizesOf}
+use Rattle.memory.specs.Reading.{rowOf, isDamaged, isDeleted}
+use Rattle.memory.specs.Outcomes.{made}
+use Rattle.memory.specs.declared.header.Header.{Header}
+use Rattle.change_value.specs.Change.{whole, flippedIn}
 use Rattle.index.specs.Soundness.{Sound}
-use Rattle.index.specs.Calls.{whole, flippedIn, oldValue, deleteAfter}
-use Rattle.steps.specs.declared.header.Header.{Header}
+use Rattle.index.specs.Calls.{oldValue, deleteAfter}
 use Rattle.history.specs.Calls.{Delete}
 use Rattle.history.specs.Plain.{Plain, headerOf, withColumn, byteAt, becoming, plainNoRow, plainGone, plainly}
 use Rattle.history.specs.History.{Agrees, Good}
@@ -38,21 +39,21 @@ module _ (plain : Plain) (memory : Memory) (agrees : Agrees (over plain memory) 
   shorter = set (plain .column) row 255
 
   delete-matches : Matches (over plain memory) (deleteAfter (headerOf plain) memory row) (plainly plain (Delete row))
-  unfolding deleteAfter whole
+  unfolding deleteAfter
   delete-matches =
       let read = rowOf header memory row in
       rw (s .within, sound-lent header memory s)
       (shared-checks (Matches (over plain memory)) (plainNoRow plain row ∷ [])
-      (Damaged when isDamaged read ∷ Gone when isDeleted read ∷ Damaged when not (whole header memory (oldValue header memory row)) ∷ [])
+      (Damaged when isDamaged read ∷ Gone when isDeleted read ∷ Damaged when not (whole (sizesOf header) (memory .words) (oldValue header memory row)) ∷ [])
       (plainGone plain row ∷ [])
-      header memory plain (made 0 header (flippedIn header memory (oldValue header memory row) row)) (becoming 0 (withColumn plain shorter))
+      header memory plain (made 0 header (flippedIn (sizesOf header) memory (oldValue header memory row) row)) (becoming 0 (withColumn plain shorter))
       (refused-matches (over plain memory) plain agrees header)
       (λ passes.
       let h = leb-false (length (plain .column)) row (passes .0) in
       ⊎-elim
       (λ (finds : FindsLive plain memory agrees row h).
       rw (finds-undamaged plain memory agrees row h, finds .held, finds .not-gone, finds .holder, sound-whole header memory s byte (finds .live))
-      (made-matches (over plain memory) 0 header (flippedIn header memory byte row) (withColumn plain shorter)
+      (made-matches (over plain memory) 0 header (flippedIn (sizesOf header) memory byte row) (withColumn plain shorter)
       (removed-agrees plain memory agrees row h (finds .live))))
       (λ (finds : FindsDeleted plain memory agrees row h).
       rw (finds-undamaged plain memory agrees row h, finds .free, finds .gone) (refused-matches (over plain memory) plain agrees header Gone))

@@ -10,19 +10,20 @@ use lib.ListN.{length, set, length-append, length-set}
 use lib.Seq.{getD-set-same, getD-set-other}
 use borrow.Author.Tests.{ne-eqb}
 use Rattle.groups.specs.Rows.{rowAt}
-use Rattle.steps.specs.Memory.{Memory, rowsIn}
+use Rattle.memory.specs.Memory.{Memory, sizesOf, rowsIn}
+use Rattle.memory.specs.Entry.{validColumn, grown}
+use Rattle.memory.specs.declared.header.Header.{Header}
+use Rattle.change_value.specs.Change.{flippedIn}
 use Rattle.index.specs.Soundness.{Sound}
-use Rattle.steps.specs.Entry.{validColumn, grown}
-use Rattle.index.specs.Calls.{flippedIn}
-use Rattle.steps.specs.declared.header.Header.{Header}
 use Rattle.history.specs.Calls.{indexOf}
 use Rattle.history.specs.Plain.{Plain, headerOf, withColumn, byteAt}
 use Rattle.history.specs.History.{Agrees}
 use Rattle.history.proofs.Agreeing.{over, row-fits, value-small, row-live, row-deleted}
 use Rattle.history.proofs.ColumnBytes.{valid-value, valid-deleted, valid-append, valid-set, byte-appended, byte-elsewhere}
 use Rattle.history.proofs.Sound.{sound-clear}
-use Rattle.history.proofs.SoundAfter.{of-each, issuing, issuing-rows}
+use Rattle.history.proofs.SoundAfter.{issuing}
 use Rattle.history.proofs.SoundFlip.{flip-replaces, flip-bit-other, flip-lone, insert-sound, remove-sound, remove-clears, add-sound}
+use Rattle.history.proofs.Tests.{of-each}
 
 module _ (plain : Plain) (memory : Memory) (agrees : Agrees (over plain memory) plain) where
   abbrev header : Header
@@ -33,40 +34,39 @@ module _ (plain : Plain) (memory : Memory) (agrees : Agrees (over plain memory) 
 
   module _ (value : ℕ) (h : value < plain .values) (row : ℕ) (inside : row < plain .rows) where
     abbrev after : Memory
-    after = flippedIn header memory value row
+    after = flippedIn (sizesOf header) memory value row
 
     -- a row in the column's value alone
     abbrev HasByte : List ℕ → ℕ → ℕ → Type 0
-    HasByte column there each = rowAt (rowsIn header (after .words) each) there ≡ cond (eqb (byteAt column there) each) 1 0
+    HasByte column there each = rowAt (rowsIn (sizesOf header) (after .words) each) there ≡ cond (eqb (byteAt column there) each) 1 0
 
     -- the flip of a row, and another byte there
     flip-agrees : (column : List ℕ) → validColumn (plain .values) column ≡ true
         → ((there : ℕ) → (there ≡ row → ⊥) → byteAt column there ≡ byteAt (plain .column) there)
-        → Sound (issuing (headerOf plain) (length column)) (flippedIn (headerOf plain) memory value row)
+        → Sound (issuing header (length column)) after
         → ((each : ℕ) → each < plain .values → HasByte column row each)
-        → Agrees (indexOf (issuing (headerOf plain) (length column)) (flippedIn (headerOf plain) memory value row)) (withColumn plain column)
+        → Agrees (indexOf (issuing header (length column)) after) (withColumn plain column)
     flip-agrees column valid same sound here =
-        let only = flip-replaces header memory s value h row inside .only in
+        let replaces = flip-replaces header memory s value h row inside in
         record {
           header = refl;
-          words = only .long-words ∙ agrees .words;
-          fences = only .long-fences ∙ agrees .fences;
+          words = replaces .words .long ∙ agrees .words;
+          fences = replaces .long-fences ∙ agrees .fences;
           sound = sound;
           bytes = valid;
           rows = λ there each l.
-              rw (issuing-rows header (length column) (after .words) each)
-              (of-each row (λ there. HasByte column there each) (here each l)
+              of-each row (λ there. HasByte column there each) (here each l)
               (λ there differ.
               let elsewhere : there ≡ row → ⊥ = λ e. differ (sym e) in
               rw (same there elsewhere, flip-bit-other header memory s value h row inside there elsewhere each) (agrees .rows there each l))
-              there);
+              there;
         }
 
   -- ---- Insert
 
   -- THEOREM: row n flipped in a value is the column with the value at its end
   pub inserted-agrees : (value : ℕ) → value < plain .values → length (plain .column) < plain .rows
-      → Agrees (indexOf (grown (headerOf plain)) (flippedIn (headerOf plain) memory value (length (plain .column))))
+      → Agrees (indexOf (grown header) (flippedIn (sizesOf header) memory value (length (plain .column))))
       (withColumn plain (plain .column ++ value ∷ []))
   inserted-agrees value h room =
       let row = length (plain .column) in
@@ -86,7 +86,7 @@ module _ (plain : Plain) (memory : Memory) (agrees : Agrees (over plain memory) 
 
     -- THEOREM: a live row flipped in its value is the column with the row deleted
     pub removed-agrees : byteAt (plain .column) row < plain .values
-        → Agrees (indexOf (headerOf plain) (flippedIn (headerOf plain) memory (byteAt (plain .column) row) row)) (withColumn plain (set (plain .column) row 255))
+        → Agrees (indexOf header (flippedIn (sizesOf header) memory (byteAt (plain .column) row) row)) (withColumn plain (set (plain .column) row 255))
     removed-agrees live =
         let byte = byteAt (plain .column) row in
         let has = row-live plain memory agrees row live in
@@ -100,7 +100,7 @@ module _ (plain : Plain) (memory : Memory) (agrees : Agrees (over plain memory) 
 
     -- THEOREM: a deleted row flipped in a value is the column with the value there
     pub put-agrees : byteAt (plain .column) row ≡ 255 → (value : ℕ) → value < plain .values
-        → Agrees (indexOf (headerOf plain) (flippedIn (headerOf plain) memory value row)) (withColumn plain (set (plain .column) row value))
+        → Agrees (indexOf header (flippedIn (sizesOf header) memory value row)) (withColumn plain (set (plain .column) row value))
     put-agrees gone value h =
         let none = row-deleted plain memory agrees row gone in
         rw (length-set (plain .column) row value) at

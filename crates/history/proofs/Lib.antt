@@ -27,6 +27,7 @@ pub mod SoundMerge
 pub mod SoundReading
 pub mod SoundTests
 pub mod SoundValue
+pub mod Tests
 pub mod Theorem
 pub mod UpdateAgrees
 pub mod ValueAgrees

@@ -4,11 +4,11 @@ use mathlib.Core.Path.{_≡_, refl, ap}
 use mathlib.Core.List.{List, []}
 use Prim.Native.Nat.{ℕ}
 use lib.ListN.{length}
-use Rattle.steps.specs.Entry.{noHeader}
-use Rattle.steps.specs.Memory.{Memory}
-use Rattle.steps.specs.Outcomes.{After, made}
+use Rattle.memory.specs.Entry.{noHeader}
+use Rattle.memory.specs.Memory.{Memory, sizesOf}
+use Rattle.memory.specs.Outcomes.{After, made}
+use Rattle.memory.specs.declared.header.Header.{Header}
 use Rattle.index.specs.Calls.{loadedIn, loadHeader, loadChecks, loadAfter}
-use Rattle.steps.specs.declared.header.Header.{Header}
 use Rattle.history.specs.Calls.{Load}
 use Rattle.history.specs.Plain.{Plain, becoming, refusing, plainLoadChecks, plainLoaded}
 use Rattle.history.specs.History.{Agrees, indexAfter, Good}
@@ -50,13 +50,13 @@ module _ (rows values threshold spacing : ℕ) (column : List ℕ) where
         (becoming 0 (plainLoaded words fences rows values threshold spacing column)))
     unfolding loadAfter
     load-matches words fences same also =
+        let after = loadedIn (sizesOf header) column values memory in
         rw (← same, ← also)
         (shared-checks (Matches (over plain memory)) (loadChecks rows values threshold spacing column memory) [] []
-        noHeader memory plain (made 0 header (loadedIn header column values memory)) (becoming 0 (loaded memory))
+        noHeader memory plain (made 0 header after) (becoming 0 (loaded memory))
         (refused-matches (over plain memory) plain agrees noHeader)
-        (λ passes. made-matches (over plain memory) 0 header (loadedIn header column values memory) (loaded memory)
-        (leaves-agrees memory (made 0 header (loadedIn header column values memory))
-        (loaded-leaves rows values threshold spacing column memory passes))))
+        (λ passes. made-matches (over plain memory) 0 header after (loaded memory)
+        (leaves-agrees memory (made 0 header after) (loaded-leaves rows values threshold spacing column memory passes))))
 
     -- THEOREM: Load is good
     pub load-good : Good (over plain memory) plain (Load rows values threshold spacing column)

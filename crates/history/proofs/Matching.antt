@@ -9,17 +9,15 @@ use Rattle.answers.specs.Numbers.{numberOf}
 use Rattle.answers.specs.Outcome.{Check, _when_}
 use Rattle.answers.specs.declared.Refusal.{Refusal}
 use Rattle.answers.proofs.Accepted.{Passes, no-zero}
-use Rattle.steps.specs.Memory.{Memory}
-use Rattle.steps.specs.Outcomes.{After, made, change}
-use Rattle.steps.specs.declared.header.Header.{Header}
+use Rattle.memory.specs.Memory.{Memory}
+use Rattle.memory.specs.Outcomes.{After, made, change}
+use Rattle.memory.specs.declared.header.Header.{Header}
+use Rattle.memory.proofs.Deciding.{refusedChange}
 use Rattle.history.specs.Calls.{Call, Index, indexOf, Reply, counted, changing, obey, lastAccepted, replied}
 use Rattle.history.specs.Plain.{Plain, PlainReply, numbered, becoming, refusing, plainly}
 use Rattle.history.specs.History.{Agrees, Good}
 
--- what a refused change leaves
-abbrev pub refusedAfter : Header → Memory → Refusal → After
-refusedAfter back memory refusal = record { answer = record { number = numberOf refusal; count = 0 }; header = back; memory = memory }
-
+-- what the plain column says to a refused change
 abbrev pub refusedReply : Plain → Refusal → PlainReply
 refusedReply plain refusal = record { said = numbered (numberOf refusal); output = []; next = plain }
 
@@ -32,7 +30,7 @@ pub record Matches (index : Index) (after : After) (reply : PlainReply) : Type 0
 -- THEOREM: both refuse alike by the checks that they share; where these pass, the rest decides
 pub shared-checks : (Holds : After → PlainReply → Type 0) (checks more rest : List Check) (back : Header) (memory : Memory) (plain : Plain)
     (after : After) (reply : PlainReply)
-    → ((refusal : Refusal) → Holds (refusedAfter back memory refusal) (refusedReply plain refusal))
+    → ((refusal : Refusal) → Holds (refusedChange back memory refusal) (refusedReply plain refusal))
     → (Passes checks → Holds (change more back memory after) (refusing rest plain reply))
     → Holds (change (checks ++ more) back memory after) (refusing (checks ++ rest) plain reply)
 shared-checks Holds [] more rest back memory plain after reply refused passed = passed tt
@@ -53,7 +51,7 @@ header-stays (suc number) header = refl
 module _ (index : Index) (plain : Plain) where
   -- THEOREM: refusals match
   pub refused-matches : Agrees index plain → (back : Header) (refusal : Refusal)
-      → Matches index (refusedAfter back (index .memory) refusal) (refusedReply plain refusal)
+      → Matches index (refusedChange back (index .memory) refusal) (refusedReply plain refusal)
   refused-matches agrees back refusal =
       record { says = refl; writes = refl; agrees = rw (last-stays (numberOf refusal) back (index .header) (no-zero refusal)) agrees }
 

@@ -15,10 +15,11 @@ use Rattle.words.specs.Words.{decode}
 use Rattle.lists.specs.Combine.{exclusive, answer}
 use Rattle.blocks.specs.Block.{valueList, updateList}
 use Rattle.blocks.proofs.WholeLists.{rowAt-current, decode-current}
-use Rattle.steps.specs.Memory.{Memory, withinLimits, shapeOf, blockAt, rowsIn}
-use Rattle.index.specs.Calls.{whole, queryList, queryChecks, queryOutcome}
-use Rattle.steps.specs.declared.header.Header.{Header}
-use Rattle.steps.proofs.Headers.{within, within-limits}
+use Rattle.memory.specs.Memory.{Memory, withinLimits, sizesOf, blockAt, rowsIn}
+use Rattle.memory.specs.declared.header.Header.{Header}
+use Rattle.memory.proofs.Headers.{within, within-limits}
+use Rattle.change_value.specs.Change.{whole}
+use Rattle.index.specs.Calls.{queryList, queryChecks, queryOutcome}
 use Rattle.history.specs.Corollaries.{QueryDiffers}
 
 -- two bits differ exactly where the answer for them is 1
@@ -33,7 +34,7 @@ module _ (header : Header) (memory : Memory) (value : ℕ) (out : List ℕ) (ok 
   record Accepted : Type 0 where
     pub within : withinLimits header ≡ true
     pub below : value < header .values
-    pub is-whole : whole header memory value ≡ true
+    pub is-whole : whole (sizesOf header) (memory .words) value ≡ true
     pub writes : take (queryOutcome header memory value out .answer .count) (queryOutcome header memory value out .output) ≡ queryList header memory value
 
   says : Accepted
@@ -45,7 +46,7 @@ module _ (header : Header) (memory : Memory) (value : ℕ) (out : List ℕ) (ok 
       record {
         within = not-false (withinLimits header) (passes .0);
         below = leb-false (header .values) value (passes .1 .1 .0);
-        is-whole = not-false (whole header memory value) (passes .1 .1 .1 .0);
+        is-whole = not-false (whole (sizesOf header) (memory .words) value) (passes .1 .1 .1 .0);
         writes = ap (λ (outcome : Outcome). take (outcome .answer .count) (outcome .output)) (passes-done checks list out passes)
             ∙ take-append-seam list (drop (length list) out);
       }
@@ -55,23 +56,23 @@ module _ (header : Header) (memory : Memory) (value : ℕ) (out : List ℕ) (ok 
   query-below = says .below
 
   pub query-writes : decode (take (queryOutcome header memory value out .answer .count) (queryOutcome header memory value out .output))
-      ≡ rowsIn header (memory .words) value
+      ≡ rowsIn (sizesOf header) (memory .words) value
   unfolding queryList whole rowsIn
   query-writes =
-      let block = blockAt header (memory .words) value in
-      rw (says .writes) (decode-current (shapeOf header) (within-limits header (within header (says .within))) block (says .is-whole))
+      let block = blockAt (sizesOf header) (memory .words) value in
+      rw (says .writes) (decode-current (sizesOf header) (within-limits header (within header (says .within))) block (says .is-whole))
 
   -- THEOREM: a row of V xor U is 1 exactly where its bits in V and U differ
-  pub rows-differ : (row : ℕ) → (rowAt (rowsIn header (memory .words) value) row ≡ 1)
-      ↔ (rowAt (decode (valueList (shapeOf header) (blockAt header (memory .words) value))) row
-      ≡ rowAt (decode (updateList (shapeOf header) (blockAt header (memory .words) value))) row
+  pub rows-differ : (row : ℕ) → (rowAt (rowsIn (sizesOf header) (memory .words) value) row ≡ 1)
+      ↔ (rowAt (decode (valueList (sizesOf header) (blockAt (sizesOf header) (memory .words) value))) row
+      ≡ rowAt (decode (updateList (sizesOf header) (blockAt (sizesOf header) (memory .words) value))) row
       → ⊥)
   unfolding whole rowsIn
   rows-differ row =
-      let shape = shapeOf header in
-      let block = blockAt header (memory .words) value in
-      rw (rowAt-current shape (within-limits header (within header (says .within))) block (says .is-whole) row)
-      (differ-exactly (rowAt (decode (valueList shape block)) row) (rowAt (decode (updateList shape block)) row) (omega arith) (omega arith))
+      let sizes = sizesOf header in
+      let block = blockAt (sizesOf header) (memory .words) value in
+      rw (rowAt-current sizes (within-limits header (within header (says .within))) block (says .is-whole) row)
+      (differ-exactly (rowAt (decode (valueList sizes block)) row) (rowAt (decode (updateList sizes block)) row) (omega arith) (omega arith))
 
 -- THEOREM: demand 2's sentence on Query
 pub query-differs : QueryDiffers

@@ -7,8 +7,8 @@ use native.Mathlib.Omega.{arith}
 use lib.Dec.{eqb}
 use lib.ListN.{length}
 use borrow.Author.Tests.{eq-eqb, ne-eqb}
-use Rattle.steps.specs.Memory.{Memory}
-use Rattle.steps.specs.Reading.{rowOf, isDamaged, isDeleted}
+use Rattle.memory.specs.Memory.{Memory}
+use Rattle.memory.specs.Reading.{rowOf, isDamaged, isDeleted}
 use Rattle.history.specs.Plain.{Plain, headerOf, byteAt}
 use Rattle.history.specs.History.{Agrees}
 use Rattle.history.proofs.Agreeing.{over, row-fits, value-small, row-live, row-deleted, live-or-deleted}

@@ -7,12 +7,13 @@ use native.Mathlib.Omega.{arith}
 use lib.Dec.{eqb}
 use Rattle.answers.specs.Outcome.{Check, _when_, outcome}
 use Rattle.answers.specs.declared.Refusal.the-variants.{Damaged}
-use Rattle.steps.specs.Entry.{noHeader, grown}
-use Rattle.steps.specs.Memory.{Memory, limits, withinLimits, isSound}
-use Rattle.steps.specs.Outcomes.{After, made, change}
-use Rattle.index.specs.Calls.{badHeader, small, loadedIn, loadHeader, loadChecks, loadAfter, queryList, queryChecks, queryOutcome, valueOutcome, mergedIn, mergeChecks, mergeAfter}
-use Rattle.index.specs.Calls.{auditOutcome, bytesOf, dumpChecks, dumpOutcome, flippedIn, insertChecks, insertAfter, oldValue, deleteChecks, deleteAfter, updateChecks, updateAfter}
-use Rattle.steps.specs.declared.header.Header.{Header}
+use Rattle.memory.specs.Entry.{noHeader, grown}
+use Rattle.memory.specs.Memory.{Memory, limits, withinLimits, sizesOf, isSound}
+use Rattle.memory.specs.Outcomes.{After, made, change}
+use Rattle.memory.specs.declared.header.Header.{Header}
+use Rattle.change_value.specs.Change.{mergedIn, flippedIn}
+use Rattle.index.specs.Calls.{loadedIn, loadHeader, loadChecks, loadAfter, entryChecks, queryList, queryChecks, queryOutcome, mergeChecks, mergeAfter, auditOutcome}
+use Rattle.index.specs.Calls.{valueOutcome, bytesOf, dumpChecks, dumpOutcome, insertChecks, insertAfter, oldValue, deleteChecks, deleteAfter, updateChecks, updateAfter}
 use Rattle.history.specs.Calls.{Call, Load, Query, Value, Insert, Update, Delete, Merge, Dump, Audit, Index, indexOf, obey, replied}
 use Rattle.history.specs.Corollaries.{outputOf, isLoad, Unchanged, RefusedUnchanged, ZerosRefused}
 use Rattle.history.proofs.Matching.{last-stays}
@@ -43,7 +44,7 @@ no-output (refusal when false ∷ checks) = no-output checks
 -- Audit
 pub audit-output : (header : Header) (memory : Memory) → auditOutcome header memory .output ≡ []
 unfolding auditOutcome
-audit-output header memory = no-output (badHeader header memory ∷ small header memory ∷ Damaged when not (isSound header memory) ∷ [])
+audit-output header memory = no-output (entryChecks header memory (Damaged when not (isSound header memory) ∷ []))
 
 module _ (index : Index) (call : Call) (refused : obey index call .said .number ≡ 0 → ⊥) where
   -- where the memory stays, so does the index
@@ -70,7 +71,7 @@ refused-unchanged index (Load rows values threshold spacing column) refused =
     let header = loadHeader rows values threshold spacing column in
     let stays =
     change-stays (loadChecks rows values threshold spacing column (index .memory)) noHeader (index .memory)
-    (made 0 header (loadedIn header column values (index .memory))) refl refused in
+    (made 0 header (loadedIn (sizesOf header) column values (index .memory))) refl refused in
     unchanged index (Load rows values threshold spacing column) refused (stays .leaves) refl (stays .gives)
 refused-unchanged index (Query value out) refused =
     unchanged index (Query value out) refused refl
@@ -80,12 +81,12 @@ refused-unchanged index (Insert value) refused =
     let header = index .header in
     let stays =
     change-stays (insertChecks header (index .memory) value) header (index .memory)
-    (made (header .issued) (grown header) (flippedIn header (index .memory) value (header .issued))) refl refused in
+    (made (header .issued) (grown header) (flippedIn (sizesOf header) (index .memory) value (header .issued))) refl refused in
     unchanged index (Insert value) refused (stays .leaves) refl (stays .gives)
 refused-unchanged index (Update row value) refused =
     let header = index .header in
     let old = oldValue header (index .memory) row in
-    let moved = flippedIn header (flippedIn header (index .memory) old row) value row in
+    let moved = flippedIn (sizesOf header) (flippedIn (sizesOf header) (index .memory) old row) value row in
     let stays =
     change-stays (updateChecks header (index .memory) row value) header (index .memory)
     (cond (eqb old value) (made 0 header (index .memory)) (made 0 header moved)) (moved-accepted (eqb old value) header (index .memory) moved) refused in
@@ -94,13 +95,13 @@ refused-unchanged index (Delete row) refused =
     let header = index .header in
     let stays =
     change-stays (deleteChecks header (index .memory) row) header (index .memory)
-    (made 0 header (flippedIn header (index .memory) (oldValue header (index .memory) row) row)) refl refused in
+    (made 0 header (flippedIn (sizesOf header) (index .memory) (oldValue header (index .memory) row) row)) refl refused in
     unchanged index (Delete row) refused (stays .leaves) refl (stays .gives)
 refused-unchanged index (Merge value) refused =
     let header = index .header in
     let stays =
     change-stays (mergeChecks header (index .memory) value) header (index .memory)
-    (made 0 header (mergedIn header (index .memory) value)) refl refused in
+    (made 0 header (mergedIn (sizesOf header) (index .memory) value)) refl refused in
     unchanged index (Merge value) refused (stays .leaves) refl (stays .gives)
 refused-unchanged index (Dump out) refused =
     unchanged index (Dump out) refused refl

@@ -8,20 +8,21 @@ use lib.Dec.{leb, eqb}
 use lib.ListN.{getD}
 use borrow.Author.Tests.{leb-false}
 use Rattle.answers.specs.declared.Refusal.the-variants.{Damaged}
-use Rattle.readings.specs.declared.read.Reading.the-variants.{Group}
-use Rattle.steps.specs.Memory.{Memory, rowsIn, every}
-use Rattle.steps.specs.Reading.{rowStep, readRow, rowOf, isDamaged, isDeleted, refusedValue, valueOf, ValuePaper, statePaper, valuePaper}
+use Rattle.blocks.specs.declared.sizes.Sizes.{Sizes}
+use Rattle.block_read.specs.declared.read.Reading.the-variants.{Group}
+use Rattle.memory.specs.Memory.{Memory, sizesOf, rowsIn, every}
+use Rattle.memory.specs.Reading.{rowStep, readRow, rowOf, isDamaged, isDeleted, refusedValue, valueOf, ValuePaper, statePaper, valuePaper}
+use Rattle.memory.specs.declared.header.Header.{Header}
+use Rattle.memory.specs.declared.row.Row.{Row}
+use Rattle.memory.specs.declared.row.State.{State}
+use Rattle.memory.specs.declared.row.State.the-variants.{Live, Deleted, Refused}
+use Rattle.memory.proofs.Headers.{within}
+use Rattle.fence_records.proofs.Every.{holds-every}
 use Rattle.index.specs.Soundness.{Sound}
-use Rattle.index.specs.Calls.{whole, queryList, queryOutcome, valueOutcome, byteOf, bytesOf, dumpOutcome}
-use Rattle.steps.specs.declared.header.Header.{Header}
-use Rattle.steps.specs.declared.row.Row.{Row}
-use Rattle.steps.specs.declared.row.State.{State}
-use Rattle.steps.specs.declared.row.State.the-variants.{Live, Deleted, Refused}
-use Rattle.values.proofs.Altering.{either}
-use Rattle.fences.proofs.Every.{holds-every}
-use Rattle.steps.proofs.Headers.{within}
+use Rattle.index.specs.Calls.{queryList, queryOutcome, valueOutcome, byteOf, bytesOf, dumpOutcome}
 use Rattle.history.proofs.Sound.{sound-lent, sound-whole}
 use Rattle.history.proofs.SoundReading.{sound-reads, row-undamaged}
+use Rattle.history.proofs.Tests.{either}
 
 -- ---- answers that differ in the words opened alone
 
@@ -77,10 +78,13 @@ same-state one other same =
 -- ---- two indexes
 
 module _ (header : Header) (memory other : Memory) (s : Sound header memory) (t : Sound header other)
-    (same : (value : ℕ) → value < header .values → rowsIn header (memory .words) value ≡ rowsIn header (other .words) value) where
+    (same : (value : ℕ) → value < header .values → rowsIn (sizesOf header) (memory .words) value ≡ rowsIn (sizesOf header) (other .words) value) where
+  abbrev sizes : Sizes
+  sizes = sizesOf header
+
   -- THEOREM: every Query is the same
   pub query-same : (value : ℕ) (out : List ℕ) → queryOutcome header memory value out ≡ queryOutcome header other value out
-  unfolding queryOutcome queryList whole
+  unfolding queryOutcome queryList
   query-same value out =
       either (leb (header .values) value)
       (λ refused. rw (s .within, sound-lent header memory s, sound-lent header other t, refused) refl)
@@ -97,14 +101,15 @@ module _ (header : Header) (memory other : Memory) (s : Sound header memory) (t 
       )
       refl)
 
-  reads-same : (row : ℕ) → row < header .rows → (count : ℕ) → count ≤ header .values → SameRow (readRow header memory row count) (readRow header other row count)
+  reads-same : (row : ℕ) → row < header .rows → (count : ℕ) → count ≤ header .values
+      → SameRow (readRow sizes memory row count) (readRow sizes other row count)
   reads-same row h zero few = record { damaged = refl; holders = refl; value = refl }
   reads-same row h (suc count) few =
       let l : count < header .values = omega arith in
       let read = sound-reads header memory s row count h l in
       let also = sound-reads header other t row count h l in
       rw (read .reads, also .reads, same count l)
-      (same-step row count (getD (rowsIn header (other .words) count) (row / 31) 0) (read .opened) (also .opened) (reads-same row h count (omega arith)))
+      (same-step row count (getD (rowsIn sizes (other .words) count) (row / 31) 0) (read .opened) (also .opened) (reads-same row h count (omega arith)))
 
   -- a row read is the same but for the words opened
   row-same : (row : ℕ) → row < header .rows → SameRow (rowOf header memory row) (rowOf header other row)

@@ -1,28 +1,27 @@
 -- Reading on a sound index: no read breaks, and a row is found in the value that has it, or in none. Assumes nothing.
-use mathlib.Core.Path.{_≡_, refl, _∙_, ap₂, sym}
+use mathlib.Core.Path.{_≡_, refl, _∙_, sym}
 use mathlib.Core.Bool.{false}
 use mathlib.Core.Logic.{by-cases}
 use mathlib.Core.List.{List}
-use Prim.Native.Nat.{ℕ, zero, suc, _+_, _*_, _-_, _/_, _%_, _^_, _<_, _≤_}
+use Prim.Native.Nat.{ℕ, zero, suc, _+_, _-_, _/_, _%_, _^_, _<_, _≤_}
 use native.Mathlib.Decide.{decLt}
 use native.Mathlib.Omega.{arith}
 use lib.ListN.{getD}
 use borrow.Author.Tests.{le-ltb}
 use Rattle.groups.specs.Rows.{rowAt}
-use Rattle.blocks.specs.Shape.{fenceCount}
-use Rattle.readings.specs.Fences.{cursorAt}
-use Rattle.readings.specs.declared.read.Reading.the-variants.{Group}
-use Rattle.readings.proofs.Reaching.{Reaches, fence-reads}
-use Rattle.blocks.proofs.Sizes.{fence-of}
-use Rattle.steps.specs.Memory.{Memory, shapeOf, blockAt, rowsIn, holdersOf}
-use Rattle.steps.specs.Fences.{noFence}
-use Rattle.steps.specs.Reading.{fenceFor, readIn, rowStep, readRow, rowOf, isDamaged}
+use Rattle.blocks.specs.declared.sizes.Sizes.{Sizes}
+use Rattle.blocks.proofs.SizeLaws.{fence-of}
+use Rattle.block_read.specs.declared.read.Reading.the-variants.{Group}
+use Rattle.block_read.proofs.Reaching.{Reaches, fence-reads}
+use Rattle.memory.specs.Memory.{Memory, sizesOf, blockAt, rowsIn, holdersOf}
+use Rattle.memory.specs.Reading.{fenceFor, readIn, rowStep, readRow, rowOf, isDamaged}
+use Rattle.memory.specs.declared.header.Header.{Header}
+use Rattle.memory.specs.declared.row.Row.{Row}
+use Rattle.memory.proofs.RowLaws.{step-clear, step-set, readBudget}
 use Rattle.index.specs.Soundness.{Sound}
-use Rattle.steps.specs.declared.header.Header.{Header}
-use Rattle.steps.specs.declared.row.Row.{Row}
 use Rattle.index.proofs.Holders.{holder-counts, none-holds, one-holds, NoHolder}
-use Rattle.steps.proofs.RowLaws.{step-clear, step-set, readBudget}
-use Rattle.history.proofs.Sound.{sound-limits, sound-whole, sound-clear, sound-few}
+use Rattle.history.proofs.Sound.{sound-limits, sound-clear, sound-few}
+use Rattle.history.proofs.SoundBlocks.{lists-whole}
 
 -- ---- one value more, by the row's bit
 
@@ -48,42 +47,37 @@ module _ (row value : ℕ) (before : Row) (group opened : ℕ) where
 -- ---- one read
 
 module _ (header : Header) (memory : Memory) (s : Sound header memory) where
-  abbrev rows : ℕ → List ℕ
-  rows value = rowsIn header (memory .words) value
+  abbrev sizes : Sizes
+  sizes = sizesOf header
 
-  -- a row of the index has its group
-  group-inside : (row : ℕ) → row < header .rows → row / 31 < shapeOf header .groups
-  group-inside row h = omega arith
+  abbrev rows : ℕ → List ℕ
+  rows value = rowsIn sizes (memory .words) value
 
   -- THEOREM: on a sound index a read never breaks: it gives the row's group in V xor U, and opens at most G + 2T + 1 words
   pub sound-reads : (row value : ℕ) → row < header .rows → value < header .values
-      → Reaches (readIn header memory row value) (getD (rowsIn header (memory .words) value) (row / 31) 0) (readBudget header)
+      → Reaches (readIn sizes memory row value) (getD (rows value) (row / 31) 0) (readBudget sizes)
   unfolding readIn rowsIn fenceFor
   sound-reads row value h l =
-      let shape = shapeOf header in
-      let block = blockAt header (memory .words) value in
       let group = row / 31 in
-      let inside = group-inside row h in
+      let inside : group < sizes .groups = omega arith in
       let limits = sound-limits header memory s in
-      let fence = getD (memory .fences) (value * fenceCount shape + group / header .spacing) noFence in
-      let right = s .fences value l (group / header .spacing) (fence-of shape limits group inside) in
-      fence-reads shape limits block (sound-whole header memory s value l) group inside
-      (cursorAt (fence .place) (fence .first)) (ap₂ cursorAt (right .place) (right .first))
+      fence-reads sizes limits (blockAt sizes (memory .words) value) (lists-whole (s .lists value l)) group inside
+      (fenceFor sizes memory row value) (s .fences value l (group / sizes .spacing) (fence-of sizes limits group inside))
 
   -- ---- the row in all values
 
   -- what is read of a row in the first values: no damage, the holders, and the value that alone has it
   record Reads (row count : ℕ) (read : Row) : Type 0 where
     pub intact : read .damaged ≡ false
-    pub counts : read .holders ≡ holdersOf header (memory .words) row count
-    pub finds : holdersOf header (memory .words) row count ≤ 1 → (value : ℕ) → value < count → rowAt (rows value) row ≡ 1 → read .value ≡ value
+    pub counts : read .holders ≡ holdersOf sizes (memory .words) row count
+    pub finds : holdersOf sizes (memory .words) row count ≤ 1 → (value : ℕ) → value < count → rowAt (rows value) row ≡ 1 → read .value ≡ value
 
-  reads-row : (row : ℕ) → row < header .rows → (count : ℕ) → count ≤ header .values → Reads row count (readRow header memory row count)
+  reads-row : (row : ℕ) → row < header .rows → (count : ℕ) → count ≤ header .values → Reads row count (readRow sizes memory row count)
   reads-row row h zero few = record { intact = refl; counts = refl; finds = λ _ value l. absurd (omega arith) }
   reads-row row h (suc count) few =
       let read = sound-reads row count h (omega arith) in
       let before = reads-row row h count (omega arith) in
-      let here = stepped row count (readRow header memory row count) (getD (rows count) (row / 31) 0) (read .opened) in
+      let here = stepped row count (readRow sizes memory row count) (getD (rows count) (row / 31) 0) (read .opened) in
       rw (read .reads)
       (record {
         intact = here .damaged ∙ before .intact;
@@ -103,30 +97,24 @@ module _ (header : Header) (memory : Memory) (s : Sound header memory) where
     unfolding rowOf
     all = reads-row row h (header .values) (omega arith)
 
-    -- THEOREM: on a sound index reading a row is never damage, and counts the values that have it
+    -- THEOREM: on a sound index reading a row is never damage
     pub row-intact : rowOf header memory row .damaged ≡ false
     row-intact = all .intact
 
-    pub row-holders : rowOf header memory row .holders ≡ holdersOf header (memory .words) row (header .values)
-    row-holders = all .counts
-
-    pub row-few : rowOf header memory row .holders ≤ 1
-    row-few = omega (arith, row-holders, sound-few header memory s row)
+    pub row-undamaged : isDamaged (rowOf header memory row) ≡ false
+    row-undamaged = rw (row-intact, le-ltb 1 (rowOf header memory row .holders) (omega (arith, all .counts, sound-few header memory s row))) refl
 
     -- THEOREM: a row that is in a value is found there and nowhere else
-    pub row-found : (value : ℕ) → value < header .values → rowAt (rowsIn header (memory .words) value) row ≡ 1
+    pub row-found : (value : ℕ) → value < header .values → rowAt (rowsIn sizes (memory .words) value) row ≡ 1
         → (rowOf header memory row .holders ≡ 1) × (rowOf header memory row .value ≡ value)
     row-found value l has =
         let few = sound-few header memory s row in
-        (row-holders ∙ one-holds header (memory .words) row (header .values) value l has few, all .finds few value l has)
+        (all .counts ∙ one-holds header (memory .words) row (header .values) value l has few, all .finds few value l has)
 
     -- a row that is in no value is found in none
     pub row-none : NoHolder header (memory .words) row (header .values) → rowOf header memory row .holders ≡ 0
-    row-none none = row-holders ∙ none-holds header (memory .words) row (header .values) none
+    row-none none = all .counts ∙ none-holds header (memory .words) row (header .values) none
 
     -- THEOREM: nor is a row that was not issued
     pub row-unissued : header .issued ≤ row → rowOf header memory row .holders ≡ 0
     row-unissued new = row-none (λ value l. sound-clear header memory s value l row new)
-
-    pub row-undamaged : isDamaged (rowOf header memory row) ≡ false
-    row-undamaged = rw (row-intact, le-ltb 1 (rowOf header memory row .holders) row-few) refl

@@ -2,9 +2,9 @@
 use mathlib.Core.Path.{_≡_, refl}
 use mathlib.Core.List.{List, [], _∷_}
 use lib.ListN.{replicate}
-use Rattle.blocks.specs.Shape.{fenceCount}
-use Rattle.steps.specs.Memory.{Memory, memoryOf, limits, lent}
-use Rattle.steps.specs.Fences.{noFence}
+use Rattle.blocks.specs.Sizes.{fencesFor}
+use Rattle.memory.specs.Memory.{Memory, memoryOf, limits, lent}
+use Rattle.memory.specs.Fences.{noFence}
 use Rattle.index.specs.Calls.{loadAfter}
 use Rattle.history.specs.Calls.{Call, Load, Query, Value, Insert, Update, Delete, Merge, Dump, Audit, Index, step, run}
 use Rattle.history.specs.Plain.{Plain, plainly, plainRun}
@@ -47,5 +47,5 @@ history rows values threshold spacing column memory accepted calls =
 
 -- there are accepted loads: of one row, into the least memory that holds it
 pub load-accepted : loadAfter 1 1 1 1 (0 ∷ []) (memoryOf (replicate 6 0) (replicate 1 noFence)) .answer .number ≡ 0
-unfolding loadAfter limits lent fenceCount
+unfolding loadAfter limits lent fencesFor
 load-accepted = refl

@@ -10,13 +10,13 @@ use lib.Seq.{getD-set-same, set-getD, set-set}
 use borrow.Author.Tests.{leb-false, eqb-true}
 use Rattle.answers.specs.Outcome.{_when_}
 use Rattle.answers.specs.declared.Refusal.the-variants.{Damaged, Gone}
-use Rattle.steps.specs.Memory.{Memory}
-use Rattle.steps.specs.Reading.{rowOf, isDamaged, isDeleted}
-use Rattle.steps.specs.Outcomes.{made}
+use Rattle.memory.specs.Memory.{Memory, sizesOf}
+use Rattle.memory.specs.Reading.{rowOf, isDamaged, isDeleted}
+use Rattle.memory.specs.Outcomes.{made}
+use Rattle.memory.specs.declared.header.Header.{Header}
+use Rattle.change_value.specs.Change.{whole, flippedIn}
 use Rattle.index.specs.Soundness.{Sound}
-use Rattle.index.specs.Calls.{whole, flippedIn, oldValue, updateAfter}
-use Rattle.steps.specs.declared.header.Header.{Header}
-use Rattle.values.proofs.Altering.{either}
+use Rattle.index.specs.Calls.{oldValue, updateAfter}
 use Rattle.history.specs.Calls.{Update, indexOf}
 use Rattle.history.specs.Plain.{Plain, headerOf, withColumn, byteAt, becoming, plainBadValue, plainNoRow, plainGone, plainly}
 use Rattle.history.specs.History.{Agrees, Good}
@@ -25,6 +25,7 @@ use Rattle.history.proofs.FlipAgrees.{removed-agrees, put-agrees}
 use Rattle.history.proofs.Matching.{Matches, shared-checks, refused-matches, matches-good, made-matches}
 use Rattle.history.proofs.ReadingAgrees.{FindsLive, FindsDeleted, finds-undamaged, finds-row}
 use Rattle.history.proofs.Sound.{sound-lent, sound-whole}
+use Rattle.history.proofs.Tests.{either}
 
 module _ (plain : Plain) (memory : Memory) (agrees : Agrees (over plain memory) plain) (row value : ℕ) where
   abbrev header : Header
@@ -38,10 +39,10 @@ module _ (plain : Plain) (memory : Memory) (agrees : Agrees (over plain memory) 
 
   -- the memory with the row out of its value, and then in the new one
   abbrev removed : Memory
-  removed = flippedIn header memory byte row
+  removed = flippedIn (sizesOf header) memory byte row
 
   abbrev moved : Memory
-  moved = flippedIn header removed value row
+  moved = flippedIn (sizesOf header) removed value row
 
   -- the column with the row deleted, and with the new value
   abbrev without : Plain
@@ -56,7 +57,8 @@ module _ (plain : Plain) (memory : Memory) (agrees : Agrees (over plain memory) 
       let below : row < length (set (plain .column) row 255) = rw (length-set (plain .column) row 255) h in
       rw (set-set (plain .column) row 255 value) at
       (under-header without
-      (λ index. Agrees (indexOf (index .header) (flippedIn (index .header) (index .memory) value row)) (withColumn without (set (without .column) row value)))
+      (λ index. Agrees (indexOf (index .header) (flippedIn (sizesOf (index .header)) (index .memory) value row))
+      (withColumn without (set (without .column) row value)))
       (λ memory again. put-agrees without memory again row below (getD-set-same (plain .column) row 255 255 h) value l)
       (indexOf header removed) (removed-agrees plain memory agrees row h live))
 
@@ -68,7 +70,7 @@ module _ (plain : Plain) (memory : Memory) (agrees : Agrees (over plain memory) 
       rw stays agrees
 
   update-matches : Matches (over plain memory) (updateAfter (headerOf plain) memory row value) (plainly plain (Update row value))
-  unfolding updateAfter whole
+  unfolding updateAfter
   update-matches =
       let read = rowOf header memory row in
       let old = oldValue header memory row in
@@ -76,11 +78,11 @@ module _ (plain : Plain) (memory : Memory) (agrees : Agrees (over plain memory) 
       (shared-checks (Matches (over plain memory)) (plainBadValue plain value ∷ plainNoRow plain row ∷ [])
       (Damaged when isDamaged read
       ∷ Gone when isDeleted read
-      ∷ Damaged when (not (eqb old value) && not (whole header memory old && whole header memory value))
+      ∷ Damaged when (not (eqb old value) && not (whole (sizesOf header) (memory .words) old && whole (sizesOf header) (memory .words) value))
       ∷ [])
       (plainGone plain row ∷ [])
       header memory plain
-      (cond (eqb old value) (made 0 header memory) (made 0 header (flippedIn header (flippedIn header memory old row) value row)))
+      (cond (eqb old value) (made 0 header memory) (made 0 header (flippedIn (sizesOf header) (flippedIn (sizesOf header) memory old row) value row)))
       (becoming 0 next)
       (refused-matches (over plain memory) plain agrees header)
       (λ passes.

@@ -9,14 +9,13 @@ use lib.Dec.{leb}
 use lib.ListN.{length}
 use borrow.Author.Tests.{leb-false}
 use Rattle.answers.specs.declared.Refusal.the-variants.{NoRow}
-use Rattle.steps.specs.Memory.{Memory}
-use Rattle.steps.specs.Reading.{rowOf, refusedValue, ValuePaper, valuePaper}
+use Rattle.memory.specs.Memory.{Memory}
+use Rattle.memory.specs.Reading.{rowOf, refusedValue, ValuePaper, valuePaper}
+use Rattle.memory.specs.declared.header.Header.{Header}
+use Rattle.memory.proofs.RowLaws.{row-opened}
 use Rattle.index.specs.Soundness.{Sound}
 use Rattle.index.specs.Calls.{valueOutcome}
-use Rattle.steps.specs.declared.header.Header.{Header}
-use Rattle.values.proofs.Altering.{either}
-use Rattle.steps.proofs.RowLaws.{row-opened}
-use Rattle.history.specs.Calls.{Value, stated, replied}
+use Rattle.history.specs.Calls.{Value, rowSaid, replied}
 use Rattle.history.specs.Plain.{Plain, headerOf, byteAt, PlainReply, stateOf, plainly}
 use Rattle.history.specs.History.{openedLimit, Agrees, Good}
 use Rattle.history.proofs.Agreeing.{over, row-live, row-deleted}
@@ -24,6 +23,7 @@ use Rattle.history.proofs.Matching.{header-stays}
 use Rattle.history.proofs.ReadingAgrees.{FindsLive, FindsDeleted, finds-row}
 use Rattle.history.proofs.Sound.{sound-lent}
 use Rattle.history.proofs.SoundValue.{value-live, value-deleted, value-answers}
+use Rattle.history.proofs.Tests.{either}
 
 module _ (plain : Plain) (memory : Memory) (agrees : Agrees (over plain memory) plain) where
   abbrev header : Header
@@ -38,7 +38,7 @@ module _ (plain : Plain) (memory : Memory) (agrees : Agrees (over plain memory) 
   value-refused row refused = rw (s .within, sound-lent header memory s, refused) refl
 
   pub record Finds (row : ℕ) : Type 0 where
-    pub states : stated (valueOutcome (headerOf plain) memory row) ≡ stateOf (byteAt (plain .column) row)
+    pub states : rowSaid (valueOutcome (headerOf plain) memory row) ≡ stateOf (byteAt (plain .column) row)
     pub opens : valueOutcome (headerOf plain) memory row .opened ≡ rowOf (headerOf plain) memory row .opened
 
   pub value-finds : (row : ℕ) → row < length (plain .column) → Finds row
@@ -46,14 +46,14 @@ module _ (plain : Plain) (memory : Memory) (agrees : Agrees (over plain memory) 
       ⊎-elim
       (λ (finds : FindsLive plain memory agrees row h).
       let found = value-live header memory s row h (byteAt (plain .column) row) (finds .live) (row-live plain memory agrees row (finds .live)) in
-      record { states = ap stated found ∙ rw (finds .not-gone) refl; opens = ap (λ (paper : ValuePaper). paper .opened) found })
+      record { states = ap rowSaid found ∙ rw (finds .not-gone) refl; opens = ap (λ (paper : ValuePaper). paper .opened) found })
       (λ (finds : FindsDeleted plain memory agrees row h).
       let found = value-deleted header memory s row h (row-deleted plain memory agrees row (finds .deleted)) in
-      record { states = ap stated found ∙ rw (finds .gone) refl; opens = ap (λ (paper : ValuePaper). paper .opened) found })
+      record { states = ap rowSaid found ∙ rw (finds .gone) refl; opens = ap (λ (paper : ValuePaper). paper .opened) found })
       (finds-row plain memory agrees row h)
 
   -- both say the same, and the column stays
-  value-is : (row : ℕ) → plainly plain (Value row) ≡ record { said = stated (valueOutcome (headerOf plain) memory row); output = []; next = plain }
+  value-is : (row : ℕ) → plainly plain (Value row) ≡ record { said = rowSaid (valueOutcome (headerOf plain) memory row); output = []; next = plain }
   value-is row =
       either (leb (length (plain .column)) row)
       (λ refused. rw (refused, value-refused row refused) refl)

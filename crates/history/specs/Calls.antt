@@ -3,11 +3,11 @@ use mathlib.Core.List.{List, [], _∷_}
 use Prim.Native.Nat.{ℕ, zero, suc}
 use Rattle.answers.specs.Numbers.{Paper}
 use Rattle.answers.specs.Outcome.{Outcome}
-use Rattle.steps.specs.Memory.{Memory}
-use Rattle.steps.specs.Outcomes.{After}
-use Rattle.steps.specs.Reading.{ValuePaper}
+use Rattle.memory.specs.Memory.{Memory}
+use Rattle.memory.specs.Outcomes.{After}
+use Rattle.memory.specs.Reading.{ValuePaper}
+use Rattle.memory.specs.declared.header.Header.{Header}
 use Rattle.index.specs.Calls.{loadAfter, queryOutcome, valueOutcome, insertAfter, updateAfter, deleteAfter, mergeAfter, dumpOutcome, auditOutcome}
-use Rattle.steps.specs.declared.header.Header.{Header}
 
 -- a call with its arguments: Load has R, d, T, G and the column; an output is lent with what it holds
 pub data Call : Type 0 where
@@ -49,8 +49,8 @@ abbrev pub counted : Paper → Said
 counted paper = record { number = paper .number; count = paper .count; live = 0; value = 0 }
 
 -- the state of a row
-abbrev pub stated : ValuePaper → Said
-stated paper = record { number = paper .number; count = 0; live = paper .live; value = paper .value }
+abbrev pub rowSaid : ValuePaper → Said
+rowSaid paper = record { number = paper .number; count = 0; live = paper .live; value = paper .value }
 
 -- a change gives back a header and leaves a memory
 abbrev pub changing : After → Reply
@@ -63,7 +63,7 @@ answering index outcome =
 
 -- and so does Value, which opens words
 abbrev pub finding : Index → ValuePaper → Reply
-finding index paper = record { said = stated paper; opened = paper .opened; output = []; header = index .header; memory = index .memory }
+finding index paper = record { said = rowSaid paper; opened = paper .opened; output = []; header = index .header; memory = index .memory }
 
 -- what each call gives back and leaves: the function that its promise cites
 abbrev pub obey : Index → Call → Reply

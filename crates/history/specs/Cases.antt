@@ -5,11 +5,11 @@ use Prim.Native.Nat.{ℕ}
 use lib.ListN.{length, drop, replicate}
 use Rattle.answers.specs.Outcome.{Outcome}
 use Rattle.packs.specs.Calls.{packOutcome}
-use Rattle.steps.specs.Entry.{noHeader}
-use Rattle.steps.specs.Fences.{fence}
-use Rattle.steps.specs.Memory.{memoryOf}
-use Rattle.steps.specs.Outcomes.{made}
-use Rattle.steps.specs.declared.header.Fence.{Fence}
+use Rattle.block_read.specs.Fences.{fenceOf}
+use Rattle.block_read.specs.declared.fence.Fence.{Fence}
+use Rattle.memory.specs.Entry.{noHeader}
+use Rattle.memory.specs.Memory.{memoryOf}
+use Rattle.memory.specs.Outcomes.{made}
 use Rattle.history.specs.Calls.{Call, Load, Query, Value, Insert, Update, Delete, Index, indexOf, Reply, changing, answering, finding, obey}
 
 -- ---- what is stated of a call
@@ -32,12 +32,12 @@ pub data Says : Type 0 where
   refused : ℕ → Says
 
 -- a list is written, and the output past it stays
-abbrev pub writing : List ℕ → Outcome
-writing words = record { answer = record { number = 0; count = length words }; output = words ++ drop (length words) out }
+abbrev pub listing : List ℕ → Outcome
+listing words = record { answer = record { number = 0; count = length words }; output = words ++ drop (length words) out }
 
 -- all that the call then gives back and leaves
 abbrev pub reply : Index → Says → Reply
-reply index (list words) = answering index (writing words)
+reply index (list words) = answering index (listing words)
 reply index (live value opened) = finding index (record { number = 0; live = 1; value = value; opened = opened })
 reply index (done next) = changing (made 0 (next .header) (next .memory))
 reply index (row given next) = changing (made given (next .header) (next .memory))
@@ -68,18 +68,18 @@ computed index ((call gives says) ∷ cases) = obey index call ∷ computed (nex
 -- and what the line states
 abbrev pub stated : Index → List Case → List Reply
 stated index [] = []
-stated index ((rows packsTo words) ∷ cases) = answering index (writing words) ∷ stated index cases
+stated index ((rows packsTo words) ∷ cases) = answering index (listing words) ∷ stated index cases
 stated index ((call gives says) ∷ cases) = reply index says ∷ stated (next index says) cases
 
 -- ---- the indexes of the table
 
 -- before the first load: 18 words and 4 fences are lent, cleared
 abbrev pub unloaded : Index
-unloaded = indexOf noHeader (memoryOf (replicate 18 0) (replicate 4 (fence 0 0)))
+unloaded = indexOf noHeader (memoryOf (replicate 18 0) (replicate 4 (fenceOf 0 0)))
 
 -- R = 31, n = 8, d = 3; T and G, which the document leaves open, are 1. A line for each value: the lengths of V and U, 1 word for V, 3 for U
 abbrev pub threeValues : List ℕ → Index
-threeValues words = indexOf (record { rows = 31; issued = 8; values = 3; threshold = 1; spacing = 1 }) (memoryOf words (replicate 4 (fence 0 0)))
+threeValues words = indexOf (record { rows = 31; issued = 8; values = 3; threshold = 1; spacing = 1 }) (memoryOf words (replicate 4 (fenceOf 0 0)))
 
 abbrev pub threeLoaded : Index
 threeLoaded =
@@ -110,7 +110,7 @@ exampleLoaded =
     (2 ∷ 1 ∷ 0x48000000 ∷ 0x80000001 ∷ 0x80000002 ∷ 0 ∷ 0
     ∷ 2 ∷ 1 ∷ 0x20000000 ∷ 0x80000001 ∷ 0x80000002 ∷ 0 ∷ 0
     ∷ [])
-    (fence 0 0 ∷ fence 1 1 ∷ fence 0 0 ∷ fence 1 1 ∷ [])
+    (fenceOf 0 0 ∷ fenceOf 1 1 ∷ fenceOf 0 0 ∷ fenceOf 1 1 ∷ [])
 
 abbrev pub exampleUpdated : Index
 exampleUpdated =
@@ -118,7 +118,7 @@ exampleUpdated =
     (2 ∷ 2 ∷ 0x48000000 ∷ 0x80000001 ∷ 0x40000000 ∷ 0x80000001 ∷ 0
     ∷ 2 ∷ 2 ∷ 0x20000000 ∷ 0x80000001 ∷ 0x40000000 ∷ 0x80000001 ∷ 0
     ∷ [])
-    (fence 0 0 ∷ fence 1 1 ∷ fence 0 0 ∷ fence 1 1 ∷ [])
+    (fenceOf 0 0 ∷ fenceOf 1 1 ∷ fenceOf 0 0 ∷ fenceOf 1 1 ∷ [])
 
 abbrev pub exampleMerged : Index
 exampleMerged =
@@ -126,7 +126,7 @@ exampleMerged =
     (2 ∷ 2 ∷ 0x08000000 ∷ 0x80000001 ∷ 0x08000000 ∷ 0x80000001 ∷ 0
     ∷ 2 ∷ 2 ∷ 0x60000000 ∷ 0x80000001 ∷ 0x08000000 ∷ 0x80000001 ∷ 0
     ∷ [])
-    (fence 0 0 ∷ fence 1 1 ∷ fence 0 0 ∷ fence 1 1 ∷ [])
+    (fenceOf 0 0 ∷ fenceOf 1 1 ∷ fenceOf 0 0 ∷ fenceOf 1 1 ∷ [])
 
 abbrev pub exampleInserted : Index
 exampleInserted =
@@ -134,7 +134,7 @@ exampleInserted =
     (1 ∷ 2 ∷ 0x80000002 ∷ 0 ∷ 0x04000000 ∷ 0x80000001 ∷ 0
     ∷ 2 ∷ 2 ∷ 0x60000000 ∷ 0x80000001 ∷ 0x08000000 ∷ 0x80000001 ∷ 0
     ∷ [])
-    (fence 0 0 ∷ fence 0 0 ∷ fence 0 0 ∷ fence 1 1 ∷ [])
+    (fenceOf 0 0 ∷ fenceOf 0 0 ∷ fenceOf 0 0 ∷ fenceOf 1 1 ∷ [])
 
 -- ---- the table
 

@@ -12,10 +12,10 @@ use Rattle.groups.specs.Rows.{rowAt}
 use Rattle.words.specs.Words.{decode}
 use Rattle.blocks.specs.Block.{valueList, updateList}
 use Rattle.blocks.specs.Whole.{updateOnes}
-use Rattle.steps.specs.Entry.{noHeader}
-use Rattle.steps.specs.Memory.{Memory, shapeOf, blockAt}
+use Rattle.memory.specs.Entry.{noHeader}
+use Rattle.memory.specs.Memory.{Memory, sizesOf, blockAt}
+use Rattle.memory.specs.Reading.{rowOf}
 use Rattle.index.specs.Soundness.{FencesRight}
-use Rattle.steps.specs.Reading.{rowOf}
 use Rattle.history.specs.Calls.{Call, Load, Query, Value, Insert, Update, Delete, Merge, Dump, Audit, Index, indexOf, obey, step}
 use Rattle.history.specs.Plain.{Plain, byteAt}
 use Rattle.history.specs.History.{bitOf, openedLimit}
@@ -29,11 +29,12 @@ NoDamage index plain = (call : Call) → obey index call .said .number ≡ numbe
 -- no update list has more than T ones
 abbrev pub FewOnes : Index → Plain → Type 0
 FewOnes index plain =
-    (value : ℕ) → value < plain .values → updateOnes (shapeOf (index .header)) (blockAt (index .header) (index .memory .words) value) ≤ plain .threshold
+    (value : ℕ) → value < plain .values
+    → updateOnes (sizesOf (index .header)) (blockAt (sizesOf (index .header)) (index .memory .words) value) ≤ plain .threshold
 
 -- every fence leads to its word
 abbrev pub FencesLead : Index → Plain → Type 0
-FencesLead index plain = (value : ℕ) → value < plain .values → FencesRight (index .header) (index .memory) value
+FencesLead index plain = (value : ℕ) → value < plain .values → FencesRight (sizesOf (index .header)) (index .memory) value
 
 -- a row is in the list of one value and in no other
 abbrev pub InOneValue : Index → Plain → ℕ → ℕ → Type 0
@@ -76,8 +77,8 @@ QueryRows index plain =
 -- a row's bits in V and in U of a value differ
 abbrev pub Differ : Index → ℕ → ℕ → Type 0
 Differ index value row =
-    rowAt (decode (valueList (shapeOf (index .header)) (blockAt (index .header) (index .memory .words) value))) row
-    ≡ rowAt (decode (updateList (shapeOf (index .header)) (blockAt (index .header) (index .memory .words) value))) row
+    rowAt (decode (valueList (sizesOf (index .header)) (blockAt (sizesOf (index .header)) (index .memory .words) value))) row
+    ≡ rowAt (decode (updateList (sizesOf (index .header)) (blockAt (sizesOf (index .header)) (index .memory .words) value))) row
     → ⊥
 
 -- demand 2: a row is in an accepted Query's list exactly when its bits in V and U differ

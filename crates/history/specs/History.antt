@@ -6,17 +6,17 @@ use Prim.Native.Nat.{ℕ, _+_, _*_, _<_, _≤_}
 use lib.Dec.{eqb}
 use lib.ListN.{length}
 use Rattle.groups.specs.Rows.{rowAt}
-use Rattle.steps.specs.Memory.{Memory, rowsIn}
+use Rattle.memory.specs.Memory.{Memory, sizesOf, rowsIn}
+use Rattle.memory.specs.Outcomes.{After}
+use Rattle.memory.specs.Entry.{validColumn}
 use Rattle.index.specs.Soundness.{Sound}
-use Rattle.steps.specs.Outcomes.{After}
-use Rattle.steps.specs.Entry.{validColumn}
 use Rattle.index.specs.Calls.{loadAfter}
 use Rattle.history.specs.Calls.{Call, Index, indexOf, obey, step, run}
 use Rattle.history.specs.Plain.{Plain, headerOf, byteAt, plainly, plainLoaded, plainRun}
 
 -- a row's bit in V xor U of a value
 abbrev pub bitOf : Index → ℕ → ℕ → ℕ
-bitOf index value row = rowAt (rowsIn (index .header) (index .memory .words) value) row
+bitOf index value row = rowAt (rowsIn (sizesOf (index .header)) (index .memory .words) value) row
 
 -- G + 2T + 1 words for each of the d values
 abbrev pub openedLimit : Plain → ℕ

@@ -10,11 +10,11 @@ use Rattle.answers.specs.Outcome.{Check, _when_, Outcome, outcome}
 use Rattle.answers.specs.declared.Refusal.the-variants.{BadHeader, Small, BadValue, NoRow, Full, Gone, OutSmall}
 use Rattle.groups.specs.Rows.{groupsFor, cut}
 use Rattle.words.specs.Words.{encode}
-use Rattle.listings.specs.Column.{rowsWith}
-use Rattle.steps.specs.Memory.{limits, lent}
-use Rattle.steps.specs.Entry.{validColumn}
+use Rattle.load_list.specs.Column.{rowsWith}
+use Rattle.memory.specs.Memory.{limits, lent}
+use Rattle.memory.specs.Entry.{validColumn}
+use Rattle.memory.specs.declared.header.Header.{Header}
 use Rattle.index.specs.Calls.{loadHeader}
-use Rattle.steps.specs.declared.header.Header.{Header}
 use Rattle.history.specs.Calls.{Call, Load, Query, Value, Insert, Update, Delete, Merge, Dump, Audit, Said, counted}
 
 -- the numbers of words and fences lent to the index beside it; the load's R, d, T and G, of which it uses R and d; and the bytes, one a row

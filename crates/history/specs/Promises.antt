@@ -7,13 +7,13 @@ use lib.ListN.{length}
 use Rattle.answers.specs.Numbers.{paper}
 use Rattle.answers.specs.Outcome.{Gives}
 use Rattle.answers.specs.declared.Answer.{Answer}
-use Rattle.steps.specs.Memory.{memoryOf}
-use Rattle.steps.specs.Outcomes.{Leaves}
-use Rattle.steps.specs.Reading.{valuePaper}
+use Rattle.block_read.specs.declared.fence.Fence.{Fence}
+use Rattle.memory.specs.Memory.{memoryOf}
+use Rattle.memory.specs.Outcomes.{Leaves}
+use Rattle.memory.specs.Reading.{valuePaper}
+use Rattle.memory.specs.declared.header.Changed.{Changed}
+use Rattle.memory.specs.declared.row.Value.{Value as RowValue}
 use Rattle.index.specs.Calls.{loadAfter, queryOutcome, valueOutcome, insertAfter, updateAfter, deleteAfter, mergeAfter, dumpOutcome, auditOutcome}
-use Rattle.steps.specs.declared.header.Fence.{Fence}
-use Rattle.steps.specs.declared.header.Changed.{Changed}
-use Rattle.steps.specs.declared.row.Value.{Value as RowValue}
 use Rattle.history.specs.Calls.{Call, Load, Query, Value, Insert, Update, Delete, Merge, Dump, Audit, Index, Reply, counted, finding, replied}
 use Rattle.history.specs.Plain.{Plain, plainly, plainLoaded, plainRun}
 use Rattle.history.specs.History.{openedLimit}

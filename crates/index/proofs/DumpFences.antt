@@ -8,15 +8,15 @@ use native.Mathlib.Omega.{arith}
 use lib.Dec.{eqb, ltb}
 use borrow.Author.Tests.{lt-ltb, le-ltb, le-leb, lt-leb, ltb-true, ltb-false, eqb-true, eqb-false}
 use Rattle.groups.specs.Rows.{groupsFor}
-use Rattle.dumps.specs.Dump.{freeInSpan, markedInSpan, spanHolds, spanMarked}
-use Rattle.marks.specs.Marks.{eachRow, everyRow, freeInReading, markedInReading, inSpan}
-use Rattle.marks.proofs.EachRow.{each-keeps, each-then, each-agrees, each-every, every-then, every-agrees}
-use Rattle.blocks.proofs.Sizes.{rounded-of}
-use Rattle.readings.specs.Read.{readGroup}
-use Rattle.steps.specs.Memory.{Memory, shapeOf, blockAt}
-use Rattle.steps.specs.Reading.{fenceFor, readIn}
-use Rattle.dumps.specs.Dumping.{fencesFor, fenceHolds, fenceMarked, fenceNumber, turnHolds, turnMarked, markedFences, fencesHold}
-use Rattle.steps.specs.declared.header.Header.{Header}
+use Rattle.blocks.specs.Sizes.{fencesFor}
+use Rattle.dump_marks.specs.Inner.{eachRow, everyRow, freeInReading, markedInReading, inSpan}
+use Rattle.dump_marks.proofs.EachRow.{each-keeps, each-then, each-agrees, each-every, every-then, every-agrees}
+use Rattle.blocks.proofs.SizeLaws.{rounded-of}
+use Rattle.block_read.specs.Read.{readGroup}
+use Rattle.memory.specs.Memory.{Memory, sizesOf, blockAt}
+use Rattle.memory.specs.Reading.{fenceFor, readIn}
+use Rattle.dump_spans.specs.Inner.{freeInSpan, markedInSpan, spanHolds, spanMarked, fenceHolds, fenceMarked, fenceNumber, turnHolds, turnMarked, markedFences, fencesHold}
+use Rattle.memory.specs.declared.header.Header.{Header}
 
 -- ---- the fence of a group
 
@@ -50,10 +50,10 @@ module _ (spacing issued j : ℕ) (some : 1 ≤ spacing) where
 
 -- what one value says of a row below n, and makes of its byte
 abbrev pub issuedFree : Header → Memory → ℕ → ℕ → ℕ → Bool
-issuedFree header memory value row byte = cond (ltb row (header .issued)) (freeInReading (readIn header memory row value) row byte) true
+issuedFree header memory value row byte = cond (ltb row (header .issued)) (freeInReading (readIn (sizesOf header) memory row value) row byte) true
 
 abbrev pub issuedMarked : Header → Memory → ℕ → ℕ → ℕ → ℕ
-issuedMarked header memory value row byte = cond (ltb row (header .issued)) (markedInReading (readIn header memory row value) value row byte) byte
+issuedMarked header memory value row byte = cond (ltb row (header .issued)) (markedInReading (readIn (sizesOf header) memory row value) value row byte) byte
 
 module _ (header : Header) (memory : Memory) (value : ℕ) (some : 1 ≤ header .spacing) where
   -- the rows of the first j fences
@@ -61,21 +61,21 @@ module _ (header : Header) (memory : Memory) (value : ℕ) (some : 1 ≤ header 
   served j row = ltb (row / 31 / header .spacing) j && ltb row (header .issued)
 
   abbrev servedFree : ℕ → ℕ → ℕ → Bool
-  servedFree j row byte = cond (served j row) (freeInReading (readIn header memory row value) row byte) true
+  servedFree j row byte = cond (served j row) (freeInReading (readIn (sizesOf header) memory row value) row byte) true
 
   abbrev servedMarked : ℕ → ℕ → ℕ → ℕ
-  servedMarked j row byte = cond (served j row) (markedInReading (readIn header memory row value) value row byte) byte
+  servedMarked j row byte = cond (served j row) (markedInReading (readIn (sizesOf header) memory row value) value row byte) byte
 
   -- what the span of fence j says and makes of a row
   abbrev spanFree : ℕ → ℕ → ℕ → Bool
   spanFree j =
-      freeInSpan (shapeOf header) (fenceNumber header memory value j .place) (fenceNumber header memory value j .first)
-      (blockAt header (memory .words) value) (j * header .spacing) (min (j * header .spacing + header .spacing) (groupsFor (header .issued))) (header .issued)
+      freeInSpan (sizesOf header) (fenceNumber (sizesOf header) memory value j)
+      (blockAt (sizesOf header) (memory .words) value) (j * header .spacing) (min (j * header .spacing + header .spacing) (groupsFor (header .issued))) (header .issued)
 
   abbrev spanMark : ℕ → ℕ → ℕ → ℕ
   spanMark j =
-      markedInSpan (shapeOf header) (fenceNumber header memory value j .place) (fenceNumber header memory value j .first)
-      (blockAt header (memory .words) value) (j * header .spacing) (min (j * header .spacing + header .spacing) (groupsFor (header .issued))) (header .issued) value
+      markedInSpan (sizesOf header) (fenceNumber (sizesOf header) memory value j)
+      (blockAt (sizesOf header) (memory .words) value) (j * header .spacing) (min (j * header .spacing + header .spacing) (groupsFor (header .issued))) (header .issued) value
 
   module _ (j row byte : ℕ) where
     -- the number of the row's fence
@@ -84,13 +84,13 @@ module _ (header : Header) (memory : Memory) (value : ℕ) (some : 1 ≤ header 
 
     -- the row is read by fence j
     read-by : number ≡ j
-        → readIn header memory row value
-        ≡ readGroup (shapeOf header) (fenceNumber header memory value j .place) (fenceNumber header memory value j .first) (row / 31)
-        (blockAt header (memory .words) value)
+        → readIn (sizesOf header) memory row value
+        ≡ readGroup (sizesOf header) (fenceNumber (sizesOf header) memory value j) (row / 31)
+        (blockAt (sizesOf header) (memory .words) value)
     unfolding readIn fenceFor
     read-by e =
-        ap (λ (k : ℕ). readGroup (shapeOf header) (fenceNumber header memory value k .place) (fenceNumber header memory value k .first) (row / 31)
-        (blockAt header (memory .words) value)) e
+        ap (λ (k : ℕ). readGroup (sizesOf header) (fenceNumber (sizesOf header) memory value k) (row / 31)
+        (blockAt (sizesOf header) (memory .words) value)) e
 
     -- one fence more
     fence-more : (servedMarked (suc j) row byte ≡ spanMark j row (servedMarked j row byte))
@@ -126,11 +126,11 @@ module _ (header : Header) (memory : Memory) (value : ℕ) (some : 1 ≤ header 
       ∙ sym (every-then (servedMarked j) (servedFree j) (spanFree j) (servedFree (suc j)) (λ row byte. fence-more j row byte .1) 0 rows)
 
   -- all fences that serve a row below n
-  all-served : (row : ℕ) → served (fencesFor (header .issued) (header .spacing)) row ≡ ltb row (header .issued)
+  all-served : (row : ℕ) → served (fencesFor (groupsFor (header .issued)) (header .spacing)) row ≡ ltb row (header .issued)
   unfolding fencesFor
   all-served row = go (ltb row (header .issued)) refl
     where
-      go : (t : Bool) → ltb row (header .issued) ≡ t → served (fencesFor (header .issued) (header .spacing)) row ≡ t
+      go : (t : Bool) → ltb row (header .issued) ≡ t → served (fencesFor (groupsFor (header .issued)) (header .spacing)) row ≡ t
       go false e = rw (e, and-false) refl
       go true e =
           let inside : row < header .issued = ltb-true row (header .issued) e in
@@ -139,15 +139,15 @@ module _ (header : Header) (memory : Memory) (value : ℕ) (some : 1 ≤ header 
 
   -- THEOREM: the fences of a value come to one read of each row below n
   pub value-marked : (rows : List ℕ)
-      → markedFences header memory value rows (fencesFor (header .issued) (header .spacing)) ≡ eachRow (issuedMarked header memory value) 0 rows
+      → markedFences header memory value rows (fencesFor (groupsFor (header .issued)) (header .spacing)) ≡ eachRow (issuedMarked header memory value) 0 rows
   value-marked rows =
-      fences-marked rows (fencesFor (header .issued) (header .spacing))
-      ∙ each-agrees (servedMarked (fencesFor (header .issued) (header .spacing))) (issuedMarked header memory value) 0 0 rows
+      fences-marked rows (fencesFor (groupsFor (header .issued)) (header .spacing))
+      ∙ each-agrees (servedMarked (fencesFor (groupsFor (header .issued)) (header .spacing))) (issuedMarked header memory value) 0 0 rows
       (λ i byte h. rw (all-served (0 + i)) refl)
 
   pub value-holds : (rows : List ℕ)
-      → fencesHold header memory value rows (fencesFor (header .issued) (header .spacing)) ≡ everyRow (issuedFree header memory value) 0 rows
+      → fencesHold header memory value rows (fencesFor (groupsFor (header .issued)) (header .spacing)) ≡ everyRow (issuedFree header memory value) 0 rows
   value-holds rows =
-      fences-hold rows (fencesFor (header .issued) (header .spacing))
-      ∙ every-agrees (servedFree (fencesFor (header .issued) (header .spacing))) (issuedFree header memory value) 0 0 rows
+      fences-hold rows (fencesFor (groupsFor (header .issued)) (header .spacing))
+      ∙ every-agrees (servedFree (fencesFor (groupsFor (header .issued)) (header .spacing))) (issuedFree header memory value) 0 0 rows
       (λ i byte h. rw (all-served (0 + i)) refl)

@@ -9,17 +9,17 @@ use lib.Dec.{eqb, ltb}
 use lib.ListN.{length, getD, take, replicate, length-append, length-replicate, getD-replicate, List·getD-append}
 use lib.Seq.{ext-getD, getD-at, getD-take, length-take-le}
 use borrow.Author.Tests.{lt-ltb, ltb-true, eqb-true, eqb-false}
-use Rattle.marks.specs.Marks.{eachRow, everyRow}
-use Rattle.marks.proofs.EachRow.{length-each, getD-each, every-each, each-every}
-use Rattle.steps.specs.Memory.{Memory, every}
-use Rattle.steps.specs.Reading.{rowOf, isDamaged}
+use Rattle.dump_marks.specs.Inner.{eachRow, everyRow}
+use Rattle.dump_marks.proofs.EachRow.{length-each, getD-each, every-each, each-every}
+use Rattle.memory.specs.Memory.{Memory, every}
+use Rattle.memory.specs.Reading.{rowOf, isDamaged}
 use Rattle.index.specs.Calls.{byteOf, bytesOf}
-use Rattle.dumps.specs.Dumping.{markedValues, valuesHold}
-use Rattle.steps.specs.declared.header.Header.{Header}
+use Rattle.dump_spans.specs.Inner.{markedValues, valuesHold}
+use Rattle.memory.specs.declared.header.Header.{Header}
 use Rattle.index.proofs.DumpValues.{rowByte, rowFree, Tells, row-tells, allFree, allMarked, values-marked, values-hold}
 use Rattle.groups.proofs.Tests.{same-test}
-use Rattle.fences.proofs.Every.{every-holds, holds-every}
-use Rattle.steps.proofs.Headers.{Within}
+use Rattle.fence_records.proofs.Every.{every-holds, holds-every}
+use Rattle.memory.proofs.Headers.{Within}
 
 -- ---- the bytes of the first rows
 

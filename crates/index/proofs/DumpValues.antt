@@ -6,17 +6,17 @@ use Prim.Native.Nat.{ℕ, zero, suc, _+_, _-_, _/_, _%_, _^_, _<_, _≤_}
 use native.Mathlib.Omega.{arith}
 use lib.Dec.{eqb, ltb}
 use borrow.Author.Tests.{lt-ltb, ne-eqb}
-use Rattle.marks.specs.Marks.{eachRow, everyRow, freeInReading, markedInReading}
-use Rattle.readings.specs.declared.read.Reading.{Reading}
-use Rattle.readings.specs.declared.read.Reading.the-variants.{Group, Broken}
-use Rattle.marks.proofs.EachRow.{each-keeps, each-then, each-every, every-then}
-use Rattle.steps.specs.Memory.{Memory}
-use Rattle.steps.specs.Reading.{readIn, rowStep, readRow, isDamaged, isDeleted}
-use Rattle.dumps.specs.Dumping.{markedValues, valuesHold}
-use Rattle.steps.specs.declared.header.Header.{Header}
-use Rattle.steps.specs.declared.row.Row.{Row}
+use Rattle.dump_marks.specs.Inner.{eachRow, everyRow, freeInReading, markedInReading}
+use Rattle.block_read.specs.declared.read.Reading.{Reading}
+use Rattle.block_read.specs.declared.read.Reading.the-variants.{Group, Broken}
+use Rattle.dump_marks.proofs.EachRow.{each-keeps, each-then, each-every, every-then}
+use Rattle.memory.specs.Memory.{Memory, sizesOf}
+use Rattle.memory.specs.Reading.{readIn, rowStep, readRow, isDamaged, isDeleted}
+use Rattle.dump_spans.specs.Inner.{markedValues, valuesHold}
+use Rattle.memory.specs.declared.header.Header.{Header}
+use Rattle.memory.specs.declared.row.Row.{Row}
 use Rattle.index.proofs.DumpFences.{issuedFree, issuedMarked, value-marked, value-holds}
-use Rattle.steps.proofs.RowLaws.{row-says}
+use Rattle.memory.proofs.RowLaws.{row-says}
 
 -- ---- one row, value by value
 
@@ -24,11 +24,11 @@ module _ (header : Header) (memory : Memory) (row : ℕ) where
   -- its byte behind the first values, and whether none of them met another
   abbrev pub rowByte : ℕ → ℕ → ℕ
   rowByte byte zero = byte
-  rowByte byte (suc value) = markedInReading (readIn header memory row value) value row (rowByte byte value)
+  rowByte byte (suc value) = markedInReading (readIn (sizesOf header) memory row value) value row (rowByte byte value)
 
   abbrev pub rowFree : ℕ → ℕ → Bool
   rowFree byte zero = true
-  rowFree byte (suc value) = rowFree byte value && freeInReading (readIn header memory row value) row (rowByte byte value)
+  rowFree byte (suc value) = rowFree byte value && freeInReading (readIn (sizesOf header) memory row value) row (rowByte byte value)
 
 -- what a byte that was 255 tells of its row, read in the first values
 pub record Tells (free : Bool) (byte : ℕ) (row : Row) : Type 0 where
@@ -72,11 +72,11 @@ module _ (row value : ℕ) (free : Bool) (byte : ℕ) (before : Row) (tells : Te
 
 module _ (header : Header) (memory : Memory) where
   -- behind the first values, a row's byte tells what reading it in them says
-  pub row-tells : (row value : ℕ) → value < 255 → Tells (rowFree header memory row 255 value) (rowByte header memory row 255 value) (readRow header memory row value)
+  pub row-tells : (row value : ℕ) → value < 255 → Tells (rowFree header memory row 255 value) (rowByte header memory row 255 value) (readRow (sizesOf header) memory row value)
   row-tells row zero few = record { whole = refl; written = λ yes. refl }
   row-tells row (suc value) few =
-      tells-step row value (rowFree header memory row 255 value) (rowByte header memory row 255 value) (readRow header memory row value)
-      (row-tells row value (omega arith)) (row-says header memory row value .below) (omega arith) (readIn header memory row value)
+      tells-step row value (rowFree header memory row 255 value) (rowByte header memory row 255 value) (readRow (sizesOf header) memory row value)
+      (row-tells row value (omega arith)) (row-says (sizesOf header) memory row value .below) (omega arith) (readIn (sizesOf header) memory row value)
 
   -- ---- all rows, value by value
 
@@ -94,11 +94,11 @@ module _ (header : Header) (memory : Memory) where
     where
       go : (issued : Bool)
           → (cond issued (rowByte header memory row byte (suc value)) byte
-          ≡ cond issued (markedInReading (readIn header memory row value) value row (cond issued (rowByte header memory row byte value) byte))
+          ≡ cond issued (markedInReading (readIn (sizesOf header) memory row value) value row (cond issued (rowByte header memory row byte value) byte))
           (cond issued (rowByte header memory row byte value) byte))
           × (cond issued (rowFree header memory row byte (suc value)) true
           ≡ cond issued (rowFree header memory row byte value) true
-          && cond issued (freeInReading (readIn header memory row value) row (cond issued (rowByte header memory row byte value) byte)) true)
+          && cond issued (freeInReading (readIn (sizesOf header) memory row value) row (cond issued (rowByte header memory row byte value) byte)) true)
       go true = (refl, refl)
       go false = (refl, refl)
 

@@ -6,16 +6,16 @@ use Prim.Native.Nat.{ℕ, zero, suc, _+_, _<_, _≤_}
 use native.Mathlib.Decide.{decLt}
 use native.Mathlib.Omega.{arith}
 use Rattle.groups.specs.Rows.{rowAt}
-use Rattle.steps.specs.Memory.{rowsIn, holdersOf}
-use Rattle.steps.specs.declared.header.Header.{Header}
+use Rattle.memory.specs.Memory.{sizesOf, rowsIn, holdersOf}
+use Rattle.memory.specs.declared.header.Header.{Header}
 
 module _ (header : Header) (words : List ℕ) (row : ℕ) where
   -- the row's bit of a value
   abbrev bit : ℕ → ℕ
-  bit value = rowAt (rowsIn header words value) row
+  bit value = rowAt (rowsIn (sizesOf header) words value) row
 
   abbrev holders : ℕ → ℕ
-  holders count = holdersOf header words row count
+  holders count = holdersOf (sizesOf header) words row count
 
   -- a value that has it is one of the holders
   pub holder-counts : (count value : ℕ) → value < count → bit value ≤ holders count

@@ -3,7 +3,5 @@ pub mod DumpValues
 pub mod DumpLaws
 pub mod Entries
 pub mod Holders
-pub mod MemoryLeft
 pub mod OneOutcome
-pub mod Refusing
 pub mod ValuePapers

@@ -5,15 +5,15 @@ use Prim.Native.Nat.{ℕ}
 use Rattle.answers.specs.Outcome.{Outcome, Gives}
 use Rattle.answers.specs.declared.Answer.{Answer}
 use Rattle.answers.proofs.OneToOne.{one-to-one, gives-one}
-use Rattle.steps.specs.Memory.{Memory}
-use Rattle.steps.specs.Outcomes.{After, Leaves}
-use Rattle.steps.specs.Reading.{valuePaper}
+use Rattle.memory.specs.Memory.{Memory}
+use Rattle.memory.specs.Outcomes.{After, Leaves}
+use Rattle.memory.specs.Reading.{valuePaper}
 use Rattle.index.specs.Calls.{valueOutcome, queryOutcome, dumpOutcome, auditOutcome}
 use Rattle.index.specs.Calls.{loadAfter, mergeAfter, insertAfter, deleteAfter, updateAfter}
-use Rattle.steps.specs.declared.header.Header.{Header}
-use Rattle.steps.specs.declared.header.Fence.{Fence}
-use Rattle.steps.specs.declared.header.Changed.{Changed}
-use Rattle.steps.specs.declared.row.Value.{Value}
+use Rattle.memory.specs.declared.header.Header.{Header}
+use Rattle.block_read.specs.declared.fence.Fence.{Fence}
+use Rattle.memory.specs.declared.header.Changed.{Changed}
+use Rattle.memory.specs.declared.row.Value.{Value}
 use Rattle.index.proofs.ValuePapers.{value-one-to-one}
 
 -- ---- one outcome of each kind of promise

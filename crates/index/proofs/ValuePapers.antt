@@ -9,14 +9,14 @@ use Rattle.answers.specs.declared.Answer.{Answer}
 use Rattle.answers.specs.declared.Answer.the-variants as answer
 use Rattle.answers.specs.declared.Refusal.the-variants.{Damaged}
 use Rattle.answers.proofs.OneToOne.{one-to-one}
-use Rattle.steps.specs.Memory.{Memory}
-use Rattle.steps.specs.Reading.{rowOf, isDamaged, isDeleted, refusedValue, valueOf, ValuePaper, statePaper, valuePaper}
-use Rattle.steps.specs.declared.header.Header.{Header}
-use Rattle.steps.specs.declared.row.Row.{Row}
-use Rattle.steps.specs.declared.row.State.{State}
-use Rattle.steps.specs.declared.row.State.the-variants.{Live, Deleted, Refused}
-use Rattle.steps.specs.declared.row.Value.{Value}
-use Rattle.steps.proofs.RowLaws.{readBudget, row-opened}
+use Rattle.memory.specs.Memory.{Memory, sizesOf}
+use Rattle.memory.specs.Reading.{rowOf, isDamaged, isDeleted, refusedValue, valueOf, ValuePaper, statePaper, valuePaper}
+use Rattle.memory.specs.declared.header.Header.{Header}
+use Rattle.memory.specs.declared.row.Row.{Row}
+use Rattle.memory.specs.declared.row.State.{State}
+use Rattle.memory.specs.declared.row.State.the-variants.{Live, Deleted, Refused}
+use Rattle.memory.specs.declared.row.Value.{Value}
+use Rattle.memory.proofs.RowLaws.{readBudget, row-opened}
 
 -- ---- the paper
 
@@ -81,7 +81,7 @@ by-state row P damage deleted live = go (isDamaged row) (isDeleted row) refl
 
 module _ (header : Header) (memory : Memory) (row : ℕ) where
   -- THEOREM: Value opens at most d x (G + 2T + 1) words
-  pub value-opened : valueOf (rowOf header memory row) .opened ≤ header .values * readBudget header
+  pub value-opened : valueOf (rowOf header memory row) .opened ≤ header .values * readBudget (sizesOf header)
   value-opened =
       let cheap = row-opened header memory row in
-      by-state (rowOf header memory row) (λ value. value .opened ≤ header .values * readBudget header) (omega arith) cheap (λ some. cheap)
+      by-state (rowOf header memory row) (λ value. value .opened ≤ header .values * readBudget (sizesOf header)) (omega arith) cheap (λ some. cheap)

@@ -1,2 +1,2 @@
 -- What the walks of the calls that change nothing use: each way out.
-mod Exits
+pub mod Exits

@@ -1,6 +1,3 @@
--- What the walks of the calls that change rows use: what a call leaves, and each way out.
-mod DeleteExits
-mod InsertExits
+-- What the walks of the calls that change rows use: each way out, and what is left.
+pub mod Exits
 pub mod Leaving
-mod MergeExits
-mod UpdateExits

@@ -1,20 +1,20 @@
 // The calls that change nothing: Value and Query.
 ghost use mathlib.Core.Path.{_≡_};
 ghost use Rattle.answers.specs.Outcome.{Gives};
-ghost use Rattle.steps.specs.Memory.{memoryOf};
-ghost use Rattle.steps.specs.Reading.{valuePaper};
+ghost use Rattle.memory.specs.Memory.{memoryOf};
+ghost use Rattle.memory.specs.Reading.{valuePaper};
 ghost use Rattle.index.specs.Calls.{valueOutcome, queryOutcome};
 use answers::Answer;
-use fences::reading::read_row;
-use steps::entry::Entry;
-use steps::entry::enter_row;
-use steps::entry::enter_value;
-use steps::header::Fence;
-use steps::header::Header;
-use steps::row::Value;
-use steps::row::refused;
-use steps::row::value_of;
-use values::alter::query_value;
+use block_read::fence::Fence;
+use change_value::value::enter_whole;
+use change_value::value::list_value;
+use fence_records::reading::read_row;
+use memory::entry::Entry;
+use memory::entry::enter_row;
+use memory::header::Header;
+use memory::row::Value;
+use memory::row::refused;
+use memory::row::value_of;
 
 // The state of a row, and the words opened to find it: at most d x (G + 2T + 1), in all d values, each from
 // its fence on.
@@ -26,8 +26,8 @@ pub fn value(words: &[u32], fences: &[Fence], header: Header, row: u32) -> Value
 {
     match enter_row(words.len(), fences.len(), header, row) {
         Entry::Stop(refusal) => refused(refusal),
-        Entry::Ready(plan) => {
-            let found = read_row(words, fences, header, plan, row);
+        Entry::Ready(sizes) => {
+            let found = read_row(words, fences, header, sizes, row);
             value_of(found)
         }
     }
@@ -41,8 +41,8 @@ pub fn value(words: &[u32], fences: &[Fence], header: Header, row: u32) -> Value
 pub fn query(words: &[u32], fences: &[Fence], out: &mut [u32], header: Header, value: u32) -> Answer
     ensures { λ r. ⌜ Gives (queryOutcome header (memoryOf (now (words .entry)) (now (fences .entry))) value (now (out .entry))) r (now (out .exit)) ⌝ }
 {
-    match enter_value(words.len(), fences.len(), header, value) {
+    match enter_whole(words, fences.len(), header, value) {
         Entry::Stop(refusal) => Answer::Refused(refusal),
-        Entry::Ready(plan) => query_value(words, out, plan, value),
+        Entry::Ready(sizes) => list_value(words, out, sizes, value),
     }
 }

@@ -4,25 +4,25 @@ ghost use mathlib.Core.Path.{_≡_};
 ghost use lib.ListN.{length};
 ghost use Rattle.answers.specs.Numbers.{paper};
 ghost use Rattle.index.specs.Calls.{auditOutcome};
-ghost use Rattle.steps.specs.Entry.{Planned};
-ghost use Rattle.steps.specs.Memory.{memoryOf};
+ghost use Rattle.memory.specs.Inner.{Planned};
+ghost use Rattle.memory.specs.Memory.{memoryOf};
 use answers::Answer;
 use answers::Refusal;
-use fences::checking::audit_values;
+use block_read::fence::Fence;
+use blocks::sizes::Sizes;
+use fence_records::checking::audit_values;
 use groups::rows::GROUP_LIMIT;
-use steps::entry::Entry;
-use steps::entry::Plan;
-use steps::entry::enter_index;
-use steps::header::Fence;
-use steps::header::Header;
+use memory::entry::Entry;
+use memory::entry::enter_index;
+use memory::header::Header;
 
 // Audit of an index whose header and sizes hold.
-fn audit_index(words: &[u32], fences: &[Fence], header: Header, plan: Plan) -> Answer
-    requires { ⌜ Planned header plan (length (now words)) (length (now fences)) ⌝ }
+fn audit_index(words: &[u32], fences: &[Fence], header: Header, sizes: Sizes) -> Answer
+    requires { ⌜ Planned header sizes (length (now words)) (length (now fences)) ⌝ }
     ensures { λ r. ⌜ paper r ≡ auditOutcome header (memoryOf (now (words .entry)) (now (fences .entry))) .answer ⌝ }
 {
     let mut taken = [0u32; GROUP_LIMIT];
-    if !audit_values(words, fences, &mut taken, header, plan) {
+    if !audit_values(words, fences, &mut taken, header, sizes) {
         return Answer::Refused(Refusal::Damaged);
     }
     Answer::Done(0)
@@ -37,6 +37,6 @@ pub fn audit(words: &[u32], fences: &[Fence], header: Header) -> Answer
 {
     match enter_index(words.len(), fences.len(), header) {
         Entry::Stop(refusal) => Answer::Refused(refusal),
-        Entry::Ready(plan) => audit_index(words, fences, header, plan),
+        Entry::Ready(sizes) => audit_index(words, fences, header, sizes),
     }
 }

@@ -1,29 +1,23 @@
-// The calls that change rows: Merge, Insert, Delete and Update. Each asks its refusals first, changes the
-// words, and makes the fences anew where a value was merged.
-ghost use Rattle.steps.specs.Memory.{memoryOf};
-ghost use Rattle.steps.specs.Outcomes.{Leaves};
+// The calls that change rows: Merge, Insert, Delete and Update. Each decides first what is to be done, which
+// changes nothing, and then carries it out.
+ghost use Rattle.memory.specs.Memory.{memoryOf};
+ghost use Rattle.memory.specs.Outcomes.{Leaves};
 ghost use Rattle.index.specs.Calls.{mergeAfter, insertAfter, deleteAfter, updateAfter};
-use answers::Refusal;
-use fences::flipping::flip_fenced;
-use fences::flipping::move_fenced;
-use fences::reading::read_row;
-use fences::records::renew;
-use steps::entry::Entry;
-use steps::entry::enter_insert;
-use steps::entry::enter_row;
-use steps::entry::enter_update;
-use steps::entry::enter_value;
-use steps::header::Changed;
-use steps::header::Fence;
-use steps::header::Header;
-use steps::header::done;
-use steps::header::grow;
-use steps::header::refuse;
-use steps::row::Holder;
-use steps::row::holder_of;
-use steps::row::is_free;
-use values::alter::Alter;
-use values::alter::merge_value;
+use crate::deciding::Flipping;
+use crate::deciding::Moving;
+use crate::deciding::decide_delete;
+use crate::deciding::decide_insert;
+use crate::deciding::decide_update;
+use block_read::fence::Fence;
+use change_value::value::enter_whole;
+use fence_records::changing::flip_fenced;
+use fence_records::changing::merge_fenced;
+use memory::entry::Entry;
+use memory::header::Changed;
+use memory::header::Header;
+use memory::header::done;
+use memory::header::grow;
+use memory::header::refuse;
 
 // Merges a value: V becomes V xor U, its fences are made anew and U becomes all zero. On a sound index this
 // changes no Query, Value state or Dump; on one whose lists are whole it mends fences and unused words.
@@ -32,13 +26,10 @@ use values::alter::merge_value;
 pub fn merge(words: &mut [u32], fences: &mut [Fence], header: Header, value: u32) -> Changed
     ensures { λ r. ⌜ Leaves (mergeAfter header (memoryOf (now (words .entry)) (now (fences .entry))) value) r (now (words .exit)) (now (fences .exit)) ⌝ }
 {
-    match enter_value(words.len(), fences.len(), header, value) {
+    match enter_whole(words, fences.len(), header, value) {
         Entry::Stop(refusal) => refuse(header, refusal),
-        Entry::Ready(plan) => {
-            let Alter::Renews = merge_value(words, plan, value) else {
-                return refuse(header, Refusal::Damaged);
-            };
-            renew(words, fences, plan, value);
+        Entry::Ready(sizes) => {
+            merge_fenced(words, fences, sizes, value);
             done(header)
         }
     }
@@ -52,16 +43,10 @@ pub fn merge(words: &mut [u32], fences: &mut [Fence], header: Header, value: u32
 pub fn insert(words: &mut [u32], fences: &mut [Fence], header: Header, value: u32) -> Changed
     ensures { λ r. ⌜ Leaves (insertAfter header (memoryOf (now (words .entry)) (now (fences .entry))) value) r (now (words .exit)) (now (fences .exit)) ⌝ }
 {
-    match enter_insert(words.len(), fences.len(), header, value) {
-        Entry::Stop(refusal) => refuse(header, refusal),
-        Entry::Ready(plan) => {
-            let found = read_row(words, fences, header, plan, header.issued);
-            if !is_free(found) {
-                return refuse(header, Refusal::Damaged);
-            }
-            if !flip_fenced(words, fences, plan, value, header.issued) {
-                return refuse(header, Refusal::Damaged);
-            }
+    match decide_insert(words, fences, header, value) {
+        Flipping::Kept(refusal) => refuse(header, refusal),
+        Flipping::Flips(sizes, into, merges) => {
+            flip_fenced(words, fences, sizes, into, header.issued, merges);
             grow(header)
         }
     }
@@ -75,19 +60,11 @@ pub fn insert(words: &mut [u32], fences: &mut [Fence], header: Header, value: u3
 pub fn delete(words: &mut [u32], fences: &mut [Fence], header: Header, row: u32) -> Changed
     ensures { λ r. ⌜ Leaves (deleteAfter header (memoryOf (now (words .entry)) (now (fences .entry))) row) r (now (words .exit)) (now (fences .exit)) ⌝ }
 {
-    match enter_row(words.len(), fences.len(), header, row) {
-        Entry::Stop(refusal) => refuse(header, refusal),
-        Entry::Ready(plan) => {
-            let found = read_row(words, fences, header, plan, row);
-            match holder_of(found) {
-                Holder::Lost(refusal) => refuse(header, refusal),
-                Holder::Found(value) => {
-                    if !flip_fenced(words, fences, plan, value, row) {
-                        return refuse(header, Refusal::Damaged);
-                    }
-                    done(header)
-                }
-            }
+    match decide_delete(words, fences, header, row) {
+        Flipping::Kept(refusal) => refuse(header, refusal),
+        Flipping::Flips(sizes, from, merges) => {
+            flip_fenced(words, fences, sizes, from, row, merges);
+            done(header)
         }
     }
 }
@@ -106,22 +83,13 @@ pub fn update(
 ) -> Changed
     ensures { λ r. ⌜ Leaves (updateAfter header (memoryOf (now (words .entry)) (now (fences .entry))) row value) r (now (words .exit)) (now (fences .exit)) ⌝ }
 {
-    match enter_update(words.len(), fences.len(), header, row, value) {
-        Entry::Stop(refusal) => refuse(header, refusal),
-        Entry::Ready(plan) => {
-            let found = read_row(words, fences, header, plan, row);
-            match holder_of(found) {
-                Holder::Lost(refusal) => refuse(header, refusal),
-                Holder::Found(old) => {
-                    if old == value {
-                        return done(header);
-                    }
-                    if !move_fenced(words, fences, plan, old, value, row) {
-                        return refuse(header, Refusal::Damaged);
-                    }
-                    done(header)
-                }
-            }
+    match decide_update(words, fences, header, row, value) {
+        Moving::Left(refusal) => refuse(header, refusal),
+        Moving::Same => done(header),
+        Moving::Moves(sizes, old, first, second) => {
+            flip_fenced(words, fences, sizes, old, row, first);
+            flip_fenced(words, fences, sizes, value, row, second);
+            done(header)
         }
     }
 }

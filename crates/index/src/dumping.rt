@@ -3,26 +3,32 @@
 ghost use lib.ListN.{length};
 ghost use Rattle.answers.specs.Outcome.{Gives};
 ghost use Rattle.index.specs.Calls.{dumpOutcome};
-ghost use Rattle.steps.specs.Entry.{Planned};
-ghost use Rattle.steps.specs.Memory.{memoryOf};
+ghost use Rattle.memory.specs.Inner.{Planned};
+ghost use Rattle.memory.specs.Memory.{memoryOf};
 use answers::Answer;
 use answers::Refusal;
-use dumps::dump::give_rows;
-use fences::marking::mark_values;
+use block_read::fence::Fence;
+use blocks::sizes::Sizes;
+use dump_spans::dump::give_rows;
+use fence_records::marking::mark_values;
 use groups::rows::ROW_LIMIT;
-use steps::entry::Entry;
-use steps::entry::Plan;
-use steps::entry::enter_index;
-use steps::header::Fence;
-use steps::header::Header;
+use memory::entry::Entry;
+use memory::entry::enter_index;
+use memory::header::Header;
 
 // Dump of an index whose header and sizes hold.
-fn dump_rows(words: &[u32], fences: &[Fence], out: &mut [u8], header: Header, plan: Plan) -> Answer
-    requires { ⌜ Planned header plan (length (now words)) (length (now fences)) ⌝ }
+fn dump_rows(
+    words: &[u32],
+    fences: &[Fence],
+    out: &mut [u8],
+    header: Header,
+    sizes: Sizes,
+) -> Answer
+    requires { ⌜ Planned header sizes (length (now words)) (length (now fences)) ⌝ }
     ensures { λ r. ⌜ Gives (dumpOutcome header (memoryOf (now (words .entry)) (now (fences .entry))) (now (out .entry))) r (now (out .exit)) ⌝ }
 {
     let mut rows = [255u8; ROW_LIMIT];
-    if !mark_values(words, fences, &mut rows, header, plan) {
+    if !mark_values(words, fences, &mut rows, header, sizes) {
         return Answer::Refused(Refusal::Damaged);
     }
     give_rows(&rows, out, header.issued)
@@ -38,6 +44,6 @@ pub fn dump(words: &[u32], fences: &[Fence], out: &mut [u8], header: Header) -> 
 {
     match enter_index(words.len(), fences.len(), header) {
         Entry::Stop(refusal) => Answer::Refused(refusal),
-        Entry::Ready(plan) => dump_rows(words, fences, out, header, plan),
+        Entry::Ready(sizes) => dump_rows(words, fences, out, header, sizes),
     }
 }

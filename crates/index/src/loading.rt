@@ -2,33 +2,33 @@
 ghost use mathlib.Core.Path.{_≡_};
 ghost use Prim.Native.Nat.{_≤_};
 ghost use lib.ListN.{length};
-ghost use Rattle.steps.specs.Entry.{Planned};
-ghost use Rattle.steps.specs.Memory.{memoryOf};
-ghost use Rattle.steps.specs.Outcomes.{Leaves};
+ghost use Rattle.memory.specs.Inner.{Planned};
+ghost use Rattle.memory.specs.Memory.{memoryOf, sizesOf};
+ghost use Rattle.memory.specs.Outcomes.{Leaves};
 ghost use Rattle.index.specs.Calls.{loadedIn, loadAfter};
-use columns::column::enter_load;
-use columns::column::load_blocks;
-use fences::records::renew;
-use steps::entry::Entry;
-use steps::entry::Plan;
-use steps::header::Changed;
-use steps::header::Fence;
-use steps::header::Header;
-use steps::header::done;
-use steps::header::header_for;
-use steps::header::no_header;
-use steps::header::refuse;
+use block_read::fence::Fence;
+use blocks::sizes::Sizes;
+use fence_records::records::renew;
+use load_column::column::enter_load;
+use load_column::column::load_blocks;
+use memory::entry::Entry;
+use memory::header::Changed;
+use memory::header::Header;
+use memory::header::done;
+use memory::header::header_for;
+use memory::header::no_header;
+use memory::header::refuse;
 
 // Writes the blocks of all values, and then their fences.
-fn load_values(words: &mut [u32], fences: &mut [Fence], column: &[u8], header: Header, plan: Plan)
-    requires { ⌜ Planned header plan (length (now words)) (length (now fences)) × (length (now column) ≤ header .rows) ⌝ }
-    ensures { λ _. ⌜ (now (words .exit) ≡ loadedIn header (now (column .entry)) (header .values) (memoryOf (now (words .entry)) (now (fences .entry))) .words)
-        × (now (fences .exit) ≡ loadedIn header (now (column .entry)) (header .values) (memoryOf (now (words .entry)) (now (fences .entry))) .fences) ⌝ }
+fn load_values(words: &mut [u32], fences: &mut [Fence], column: &[u8], header: Header, sizes: Sizes)
+    requires { ⌜ Planned header sizes (length (now words)) (length (now fences)) × (length (now column) ≤ header .rows) ⌝ }
+    ensures { λ _. ⌜ (now (words .exit) ≡ loadedIn (sizesOf header) (now (column .entry)) (header .values) (memoryOf (now (words .entry)) (now (fences .entry))) .words)
+        × (now (fences .exit) ≡ loadedIn (sizesOf header) (now (column .entry)) (header .values) (memoryOf (now (words .entry)) (now (fences .entry))) .fences) ⌝ }
 {
-    load_blocks(words, column, plan, header.values);
+    load_blocks(words, column, sizes, header.values);
     let mut value: u32 = 0;
     while value < header.values {
-        renew(words, fences, plan, value);
+        renew(words, fences, sizes, value);
         value = value + 1;
     }
 }
@@ -60,9 +60,9 @@ pub fn load(
         spacing,
     ) {
         Entry::Stop(refusal) => refuse(no_header(), refusal),
-        Entry::Ready(plan) => {
+        Entry::Ready(sizes) => {
             let header = header_for(rows, column.len(), values, threshold, spacing);
-            load_values(words, fences, column, header, plan);
+            load_values(words, fences, column, header, sizes);
             done(header)
         }
     }

@@ -1,6 +1,7 @@
 // What follows the numbers of a line: the column of a load, the rows of a pack, the words of an unpack.
 use crate::input::Waiting;
 use crate::input::line_of;
+use digits::reading::digit_of;
 use fields::places::Taken;
 use fields::places::is_over;
 use fields::places::next_field;
@@ -59,14 +60,11 @@ fn digits_of(digits: &[u8], rows: &mut [u8]) -> Counted {
     }
     let mut i: usize = 0;
     while i < digits.len() {
-        let digit = digits[i];
-        if digit < b'0' {
+        let digit = digit_of(digits[i]);
+        if 10 <= digit {
             return Counted::Wrong;
         }
-        if b'9' < digit {
-            return Counted::Wrong;
-        }
-        rows[i] = digit - b'0';
+        rows[i] = digit;
         i += 1;
     }
     Counted::Count(i)

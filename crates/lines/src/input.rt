@@ -2,6 +2,7 @@
 ghost use lib.ListN.{length};
 ghost use Rattle.fields.specs.Places.{Between};
 use fields::places::Field;
+use fields::places::find;
 
 // What was found at the last look: a line, a line that the buffer does not hold, nothing as yet, or the
 // end of the input.
@@ -12,7 +13,7 @@ pub enum Found {
     End,
 }
 
-// The line that was found last, from `from` to `to`; the bytes that wait behind it, from `next` to `end`,
+// The line that was found last, from `from` to `to`; the bytes that wait after it, from `next` to `end`,
 // of which those up to `seen` hold no line end; whether a line is passed over that is too long.
 pub struct Waiting {
     pub found: Found,
@@ -24,17 +25,22 @@ pub struct Waiting {
     pub skips: bool,
 }
 
-// Nothing is read.
-pub fn nothing_waiting() -> Waiting {
+// No line, and bytes that wait in front of the buffer.
+fn no_line(found: Found, seen: usize, end: usize, skips: bool) -> Waiting {
     Waiting {
-        found: Found::Nothing,
+        found: found,
         from: 0,
         to: 0,
         next: 0,
-        seen: 0,
-        end: 0,
-        skips: false,
+        seen: seen,
+        end: end,
+        skips: skips,
     }
+}
+
+// Nothing is read.
+pub fn nothing_waiting() -> Waiting {
+    no_line(Found::Nothing, 0, 0, false)
 }
 
 pub fn has_ended(waiting: Waiting) -> bool {
@@ -45,36 +51,15 @@ pub fn has_ended(waiting: Waiting) -> bool {
     }
 }
 
-// The place of the first line end from `from` on and before `to`, or `to`.
-fn find_line_end(input: &[u8], from: usize, to: usize) -> usize {
-    let mut i = from;
-    while i < to {
-        if input.len() <= i {
-            return to;
-        }
-        if input[i] == b'\n' {
-            return i;
-        }
-        i += 1;
-    }
-    to
+// The end of a line that was passed over is that of one too long.
+fn kind_of(skips: bool) -> Found {
+    if skips { Found::Long } else { Found::Line }
 }
 
 // A line from `from` to `to`, or the end of one that is too long.
 fn line_found(waiting: Waiting, from: usize, to: usize, next: usize, end: usize) -> Waiting {
-    if waiting.skips {
-        return Waiting {
-            found: Found::Long,
-            from: from,
-            to: to,
-            next: next,
-            seen: next,
-            end: end,
-            skips: false,
-        };
-    }
     Waiting {
-        found: Found::Line,
+        found: kind_of(waiting.skips),
         from: from,
         to: to,
         next: next,
@@ -104,8 +89,8 @@ fn move_front(input: &mut [u8], from: usize, to: usize) -> usize {
     count
 }
 
-// Reads once, behind the first `end` bytes; answers how many bytes there are then.
-fn read_behind(input: &mut [u8], end: usize) -> usize {
+// Reads once, after the first `end` bytes; answers how many bytes there are then.
+fn read_after(input: &mut [u8], end: usize) -> usize {
     if input.len() <= end {
         return end;
     }
@@ -123,55 +108,33 @@ fn read_behind(input: &mut [u8], end: usize) -> usize {
 fn read_more(input: &mut [u8], waiting: Waiting) -> Waiting {
     let kept = move_front(input, waiting.next, waiting.end);
     if input.len() <= kept {
-        return Waiting {
-            found: Found::Nothing,
-            from: 0,
-            to: 0,
-            next: 0,
-            seen: 0,
-            end: 0,
-            skips: true,
-        };
+        return no_line(Found::Nothing, 0, 0, true);
     }
-    let end = read_behind(input, kept);
+    let end = read_after(input, kept);
     if kept < end {
-        return Waiting {
-            found: Found::Nothing,
-            from: 0,
-            to: 0,
-            next: 0,
-            seen: kept,
-            end: end,
-            skips: waiting.skips,
-        };
+        return no_line(Found::Nothing, kept, end, waiting.skips);
     }
     last_line(waiting, kept)
 }
 
 // The input has ended: what waits is the last line, which has no line end.
 fn last_line(waiting: Waiting, kept: usize) -> Waiting {
-    if waiting.skips {
-        return line_found(waiting, 0, kept, 0, 0);
-    }
-    if kept == 0 {
-        return Waiting {
-            found: Found::End,
-            from: 0,
-            to: 0,
-            next: 0,
-            seen: 0,
-            end: 0,
-            skips: false,
-        };
+    if !waiting.skips {
+        if kept == 0 {
+            return no_line(Found::End, 0, 0, false);
+        }
     }
     line_found(waiting, 0, kept, 0, 0)
 }
 
 // Goes on to the next line, if it is read already; reads once if it is not.
 pub fn look_on(input: &mut [u8], waiting: Waiting) -> Waiting {
-    let stop = find_line_end(input, waiting.seen, waiting.end);
-    if stop < waiting.end {
-        return line_found(waiting, waiting.next, stop, stop + 1, waiting.end);
+    let end = waiting.end;
+    if waiting.seen < end {
+        let stop = find(input, waiting.seen, end, b'\n', true);
+        if stop < end {
+            return line_found(waiting, waiting.next, stop, stop + 1, end);
+        }
     }
     read_more(input, waiting)
 }

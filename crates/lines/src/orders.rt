@@ -12,7 +12,7 @@ use fields::places::last_word;
 use fields::places::next_field;
 use fields::places::take_number;
 
-// A command: its numbers in the order of the line, and the place behind them, where the column of a load,
+// A command: its numbers in the order of the line, and the place after them, where the column of a load,
 // the rows of a pack and the words of an unpack begin.
 pub struct Order {
     pub verb: Verb,
@@ -35,8 +35,8 @@ pub enum Request {
     Silent,
 }
 
-// Four numbers, and the place behind them.
-pub struct Four {
+// Four numbers, and the place after them.
+struct Four {
     pub first: u32,
     pub second: u32,
     pub third: u32,
@@ -44,7 +44,7 @@ pub struct Four {
     pub rest: usize,
 }
 
-pub enum Begun {
+enum Begun {
     Numbers(Four),
     Nothing,
 }

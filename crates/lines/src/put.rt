@@ -1,5 +1,6 @@
 // What an answer is made of. It is put into a buffer from a place on, and each function answers the place
-// behind what it has put; a buffer that is full is written out first.
+// after what it has put; a buffer that is full is written out first.
+use digits::writing::put_digits;
 
 pub fn wide(word: u32) -> u64 {
     word as u64
@@ -13,7 +14,7 @@ fn write_out(out: &[u8], at: usize) {
 }
 
 // Puts one byte.
-pub fn put_byte(out: &mut [u8], at: usize, byte: u8) -> usize {
+fn put_byte(out: &mut [u8], at: usize, byte: u8) -> usize {
     if at < out.len() {
         out[at] = byte;
         return at + 1;
@@ -46,12 +47,12 @@ pub fn put_number(out: &mut [u8], at: usize, number: u64) -> usize {
 
 // Puts a word in 8 hexadecimal digits.
 fn put_word(out: &mut [u8], at: usize, word: u32) -> usize {
-    let mut digits = [0u8; 16];
-    let count = io::hex(wide(word), 8, &mut digits);
-    put_text(out, at, &digits[..count])
+    let mut digits = [0u8; 8];
+    put_digits(&mut digits, 0, word, 8);
+    put_text(out, at, &digits)
 }
 
-// Puts a fence record, `PLACE:FIRST` behind a space.
+// Puts a fence record, `PLACE:FIRST` after a space.
 pub fn put_record(out: &mut [u8], at: usize, place: u32, first: u32) -> usize {
     let begun = put_byte(out, at, b' ');
     let placed = put_number(out, begun, wide(place));
@@ -59,7 +60,7 @@ pub fn put_record(out: &mut [u8], at: usize, place: u32, first: u32) -> usize {
     put_number(out, parted, wide(first))
 }
 
-// Puts the first words of a list, each behind a space.
+// Puts the first words of a list, each after a space.
 pub fn put_words(out: &mut [u8], at: usize, list: &[u32], count: usize) -> usize {
     let mut to = at;
     let mut i: usize = 0;
@@ -74,43 +75,45 @@ pub fn put_words(out: &mut [u8], at: usize, list: &[u32], count: usize) -> usize
     to
 }
 
-// Puts one row of a dump: its value, or `-` where it is deleted.
-fn put_row(out: &mut [u8], at: usize, byte: u8) -> usize {
+// Which rows are put: those of a dump, or those of an unpack.
+pub enum Rows {
+    Dumped,
+    Unpacked,
+}
+
+// Puts one row of a dump after a space: its value, or `-` where it is deleted.
+fn put_value(out: &mut [u8], at: usize, byte: u8) -> usize {
+    let begun = put_byte(out, at, b' ');
     if byte == 255 {
-        return put_byte(out, at, b'-');
+        return put_byte(out, begun, b'-');
     }
-    put_number(out, at, byte as u64)
+    put_number(out, begun, byte as u64)
 }
 
-// Puts the first rows of a dump, each behind a space.
-pub fn put_rows(out: &mut [u8], at: usize, rows: &[u8], count: usize) -> usize {
+// Puts one row of an unpack: its digit.
+fn put_bit(out: &mut [u8], at: usize, byte: u8) -> usize {
+    if byte == 0 {
+        return put_byte(out, at, b'0');
+    }
+    put_byte(out, at, b'1')
+}
+
+fn put_row(out: &mut [u8], at: usize, byte: u8, kind: Rows) -> usize {
+    match kind {
+        Rows::Dumped => put_value(out, at, byte),
+        Rows::Unpacked => put_bit(out, at, byte),
+    }
+}
+
+// Puts the first rows.
+pub fn put_rows(out: &mut [u8], at: usize, rows: &[u8], count: usize, kind: Rows) -> usize {
     let mut to = at;
     let mut i: usize = 0;
     while i < count {
         if rows.len() <= i {
             return to;
         }
-        to = put_byte(out, to, b' ');
-        to = put_row(out, to, rows[i]);
-        i += 1;
-    }
-    to
-}
-
-// The digit of a row.
-fn digit_of(row: u8) -> u8 {
-    if row == 0 { b'0' } else { b'1' }
-}
-
-// Puts the first rows of 0 and 1, a digit each.
-pub fn put_digits(out: &mut [u8], at: usize, rows: &[u8], count: usize) -> usize {
-    let mut to = at;
-    let mut i: usize = 0;
-    while i < count {
-        if rows.len() <= i {
-            return to;
-        }
-        to = put_byte(out, to, digit_of(rows[i]));
+        to = put_row(out, to, rows[i], kind);
         i += 1;
     }
     to

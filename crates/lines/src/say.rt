@@ -1,7 +1,7 @@
 // Answers, each a line.
+use crate::put::Rows;
 use crate::put::begin_answer;
 use crate::put::end_answer;
-use crate::put::put_digits;
 use crate::put::put_number;
 use crate::put::put_rows;
 use crate::put::put_text;
@@ -9,17 +9,32 @@ use crate::put::put_words;
 use crate::put::wide;
 use answers::Answer;
 use answers::Refusal;
-use steps::row::State;
-use steps::row::Value;
+use memory::row::State;
+use memory::row::Value;
 
 // How much of an answer is written out at a time.
 const BUFFER: usize = 4096;
 
 // An answer that is a text.
-pub fn say_text(text: &[u8]) {
+fn say_text(text: &[u8]) {
     let mut out = [0u8; BUFFER];
     let at = put_text(&mut out, 0, text);
     end_answer(&mut out, at);
+}
+
+// `0`: it is done.
+pub fn say_zero() {
+    say_text(b"0");
+}
+
+// A place or a number is past the memory.
+pub fn say_range() {
+    say_text(b"? range");
+}
+
+// There is no such line.
+pub fn say_no_line() {
+    say_text(b"? line");
 }
 
 // An answer that is a text and a number.
@@ -47,7 +62,7 @@ fn put_name(out: &mut [u8], at: usize, refusal: Refusal) -> usize {
 }
 
 // A refusal: its number and its name.
-pub fn say_refusal(refusal: Refusal) {
+fn say_refusal(refusal: Refusal) {
     let mut out = [0u8; BUFFER];
     let begun = put_number(&mut out, 0, wide(answers::number(refusal)));
     let at = put_name(&mut out, begun, refusal);
@@ -57,7 +72,7 @@ pub fn say_refusal(refusal: Refusal) {
 // `0`, or a refusal.
 pub fn say_done(answer: Answer) {
     match answer {
-        Answer::Done(_) => say_text(b"0"),
+        Answer::Done(_) => say_zero(),
         Answer::Refused(refusal) => say_refusal(refusal),
     }
 }
@@ -82,7 +97,7 @@ pub fn say_list(list: &[u32], answer: Answer) {
 fn say_rows(rows: &[u8], count: usize) {
     let mut out = [0u8; BUFFER];
     let begun = begin_answer(&mut out);
-    let at = put_rows(&mut out, begun, rows, count);
+    let at = put_rows(&mut out, begun, rows, count, Rows::Dumped);
     end_answer(&mut out, at);
 }
 
@@ -97,12 +112,12 @@ pub fn say_dump(rows: &[u8], answer: Answer) {
 // The first rows of an unpack, as `0 DIGITS`; just `0` for none.
 fn say_digits(rows: &[u8], count: usize) {
     if count == 0 {
-        say_text(b"0");
+        say_zero();
         return;
     }
     let mut out = [0u8; BUFFER];
     let begun = put_text(&mut out, 0, b"0 ");
-    let at = put_digits(&mut out, begun, rows, count);
+    let at = put_rows(&mut out, begun, rows, count, Rows::Unpacked);
     end_answer(&mut out, at);
 }
 
@@ -114,7 +129,7 @@ pub fn say_unpacked(rows: &[u8], answer: Answer) {
     }
 }
 
-// The state of a row behind a text, with the words opened to find it.
+// Ends the answer of a row's state with the words opened to find it.
 fn say_opened(out: &mut [u8], at: usize, opened: usize) {
     let begun = put_text(out, at, b" opened ");
     let end = put_number(out, begun, opened as u64);

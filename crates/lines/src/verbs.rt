@@ -1,5 +1,5 @@
 // The commands by their names.
-use fields::places::same;
+use check::same;
 
 pub enum Verb {
     Load,

@@ -6,7 +6,8 @@ use Prim.Native.Nat.{ℕ, zero-le}
 use lib.ListN.{length}
 use Rattle.groups.specs.Rows.{rowAt, clearFrom}
 use Rattle.groups.proofs.Tail.{clear-all, clearFrom-rowAt, rowAt-clearFrom}
-use Rattle.lists.specs.Combine.{shared, answer, combined, apart}
+use Rattle.lists.specs.Combine.{answer, combined}
+use Rattle.lists.specs.Inner.{shared, apart}
 use Rattle.lists.proofs.Operations.{shared-bits}
 use Rattle.lists.proofs.Combining.{combined-lt, rowAt-combined-any}
 

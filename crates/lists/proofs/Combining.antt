@@ -1,13 +1,12 @@
 -- Laws of the combination of two lists of groups: group by group, row by row and span by span. Assumes nothing.
 use mathlib.Core.Path.{_≡_, refl, _∙_, ap, sym}
-use mathlib.Core.Bool.{Bool, true, false}
+use mathlib.Core.Logic.{by-cases}
 use mathlib.Core.List.{List, [], _∷_, _++_}
-use Prim.Native.Nat.{ℕ, suc, zero, _+_, _*_, _-_, _/_, _%_, _^_, _<_, _≤_}
+use Prim.Native.Nat.{ℕ, suc, zero, _*_, _-_, _/_, _%_, _^_, _<_, _≤_}
+use native.Mathlib.Decide.{decLt}
 use native.Mathlib.Omega.{arith}
 use native.Mathlib.Nat.{sub-zero, suc-sub-suc}
-use lib.Dec.{ltb}
 use lib.ListN.{length, getD, replicate}
-use borrow.Author.Tests.{ltb-true, ltb-false}
 use Rattle.groups.specs.Rows.{rowAt}
 use Rattle.groups.proofs.Groups.{rowAt-past}
 use Rattle.words.proofs.Round.{Groups}
@@ -66,11 +65,8 @@ module _ (operation : Operation) where
 
       -- and past the last row where two zeros make a zero
       pub rowAt-combined-any : operation .neither ≡ 0 → rowAt (combined operation xs ys) row ≡ answer operation (rowAt xs row) (rowAt ys row)
-      rowAt-combined-any none = go (ltb row (31 * length xs)) refl
-        where
-          go : (t : Bool) → ltb row (31 * length xs) ≡ t → rowAt (combined operation xs ys) row ≡ answer operation (rowAt xs row) (rowAt ys row)
-          go true p = rowAt-combined (ltb-true row (31 * length xs) p)
-          go false p =
-              let past : 31 * length xs ≤ row = ltb-false row (31 * length xs) p in
-              let none-in : rowAt (combined operation xs ys) row ≡ 0 = rowAt-past (combined operation xs ys) row (omega (arith, length-combined xs ys e)) in
-              rw (none-in, rowAt-past xs row past, rowAt-past ys row (omega arith)) (sym none)
+      rowAt-combined-any none =
+          by-cases (decLt row (31 * length xs)) rowAt-combined
+          (λ past.
+          let none-in : rowAt (combined operation xs ys) row ≡ 0 = rowAt-past (combined operation xs ys) row (omega (arith, length-combined xs ys e)) in
+          rw (none-in, rowAt-past xs row (omega arith), rowAt-past ys row (omega arith)) (sym none))

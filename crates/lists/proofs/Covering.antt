@@ -7,20 +7,16 @@ use native.Mathlib.Omega.{arith}
 use lib.ListN.{length, getD, take, drop, length-drop, length-replicate, List·getD-append, getD-replicate}
 use lib.Seq.{getD-drop, getD-append-add}
 use Rattle.groups.specs.Rows.{groupsFor}
-use Rattle.words.specs.Words.{Run, Run.literal, Run.fill, runOf, span, groupIn, decode, encode, noFill, bitAfter, wellFormed, canonical}
+use Rattle.words.specs.Words.{runOf, span, groupIn, decode, encode, noFill, bitAfter, wellFormed, canonical}
 use Rattle.words.proofs.Canonical.{canonical-parts}
 use Rattle.words.proofs.Forms.{keeps-covers, keeps-first, groupsOfRun, runAt, decode-split, length-split, decode-from}
-use Rattle.words.proofs.Round.{Groups, Narrow, read-narrow, decode-encode, encode-form}
-use Rattle.lists.specs.Combine.{Filled, Covers}
+use Rattle.words.proofs.Round.{Groups, by-word, decode-encode, encode-form}
+use Rattle.lists.specs.Inner.{Filled, Covers}
 
 -- ---- the group of one word
 
-run-small : (run : Run) → Narrow run → groupIn run < 0x80000000
-run-small (literal group) narrow = narrow
-run-small (fill bit count) narrow = omega arith
-
 pub word-small : (list : List ℕ) (i : ℕ) → groupIn (runAt list i) < 0x80000000
-word-small list i = run-small (runAt list i) (read-narrow _)
+word-small list i = by-word (λ run. groupIn run < 0x80000000) (getD list i 0) (λ low. low) (λ high. omega arith)
 
 -- ---- the words from place i on, of which the first covers the groups from `first` on
 

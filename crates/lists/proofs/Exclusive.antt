@@ -25,7 +25,7 @@ answer-comm zero (suc right) = refl
 answer-comm (suc left) zero = refl
 answer-comm (suc left) (suc right) = refl
 
-pub xor-comm : (xs ys : List ℕ) → length xs ≡ length ys → combined exclusive xs ys ≡ combined exclusive ys xs
+xor-comm : (xs ys : List ℕ) → length xs ≡ length ys → combined exclusive xs ys ≡ combined exclusive ys xs
 xor-comm xs ys same =
     same-groups (combined exclusive xs ys) (combined exclusive ys xs) (combined-lt exclusive exclusive-bits xs ys) (combined-lt exclusive exclusive-bits ys xs)
     (length-combined exclusive xs ys same ∙ same ∙ sym (length-combined exclusive ys xs (sym same)))

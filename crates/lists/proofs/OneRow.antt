@@ -11,8 +11,8 @@ use lib.Pow.{pow-pos, pow-mono}
 use lib.Seq.{sets, getD-at, take-at}
 use borrow.Author.Tests.{eqb-true, eqb-false}
 use Rattle.groups.specs.Rows.{rowAt}
-use Rattle.words.specs.Words.{Run.fill, allOnes, wordOf, uniform, decode, encode}
-use Rattle.words.specs.Writer.{Takes, written, lastWords}
+use Rattle.words.specs.Words.{Run.fill, allOnes, wordOf, decode, encode}
+use Rattle.words.specs.Inner.{uniform, Takes, written, lastWords}
 use Rattle.words.specs.declared.writer.Pending.{Pending}
 use Rattle.words.specs.declared.writer.Step.{Step}
 use Rattle.groups.proofs.Group.{power-bit, power-other}
@@ -20,8 +20,7 @@ use Rattle.groups.proofs.Groups.{getD-zeros}
 use Rattle.words.proofs.Round.{Groups, decode-encode}
 use Rattle.words.proofs.Runs.{ends-run, last-run, literal-word}
 use Rattle.words.proofs.Writing.{Writing, step-on, ends}
-use Rattle.lists.specs.Combine.{Covers}
-use Rattle.lists.specs.OneRow.{oneRow, Packs}
+use Rattle.lists.specs.Inner.{Covers, oneRow, Packs}
 use Rattle.lists.specs.declared.one_row.Short.{Short}
 use Rattle.lists.proofs.Covering.{encode-covers}
 
@@ -71,7 +70,7 @@ module _ (groups row : ℕ) where
   unfolding oneRow
   length-oneRow h = simp (length-append, length-replicate) (omega arith)
 
-  pub oneRow-lt : Groups (oneRow groups row)
+  oneRow-lt : Groups (oneRow groups row)
   oneRow-lt i = go (eqb i (row / 31)) refl
     where
       go : (t : Bool) → eqb i (row / 31) ≡ t → getD (oneRow groups row) i 0 < 0x80000000

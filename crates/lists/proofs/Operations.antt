@@ -1,18 +1,21 @@
 -- Laws of an operation on two groups: its bits, its bound, and what it makes of uniform groups; the machine's XOR, AND and OR are such. Assumes nothing.
 use mathlib.Core.Path.{_≡_, refl, _∙_, ap₂, sym}
 use mathlib.Core.Bool.{Bool, true, false}
+use mathlib.Core.Logic.{by-cases}
 use Prim.Native.Nat.{ℕ, suc, zero, min, max, _+_, _-_, _*_, _/_, _%_, _^_, _<_, _≤_}
+use native.Mathlib.Decide.{decLt}
 use native.Mathlib.Omega.{arith}
 use native.Mathlib.Nat.{pow-suc, div-one}
 use native.Mathlib.Numerals.{one-add}
 use lib.Arith.{lt-one, digits-lt, digits-div, digits-mod}
 use lib.Bits.{bitXor, bitAnd, bitOr, differ, xor-step, and-step, or-step}
-use lib.Dec.{leb, eqb}
+use lib.Dec.{eqb}
 use lib.Pow.{shr-shr}
-use borrow.Author.Tests.{leb-true, leb-false, eqb-true, eqb-false}
+use borrow.Author.Tests.{eqb-true, eqb-false}
 use Rattle.words.specs.Words.{allOnes}
-use Rattle.words.specs.Writer.{Alone}
-use Rattle.lists.specs.Combine.{Operation, exclusive, shared, either, answer, onBits, onGroup}
+use Rattle.words.specs.Inner.{Alone}
+use Rattle.lists.specs.Combine.{Operation, exclusive, answer, onBits, onGroup}
+use Rattle.lists.specs.Inner.{shared, either}
 
 -- what holds for the four pairs of bits holds for any two
 by-bits : (Holds : ℕ → ℕ → Type 0) → Holds 0 0 → Holds 0 1 → Holds 1 0 → Holds 1 1 → (a b : ℕ) → a < 2 → b < 2 → Holds a b
@@ -102,7 +105,7 @@ long-uniform group count alone h = go (eqb group 0) (eqb group allOnes) refl ref
 
 module _ (operation : Operation) (bits : GivesBits operation) where
   -- the operation on two uniform groups is a uniform group
-  pub onGroup-uniform : (a b : ℕ) → a < 2 → b < 2 → onGroup operation (a * allOnes) (b * allOnes) ≡ answer operation a b * allOnes
+  onGroup-uniform : (a b : ℕ) → a < 2 → b < 2 → onGroup operation (a * allOnes) (b * allOnes) ≡ answer operation a b * allOnes
   unfolding onGroup
   onGroup-uniform =
       by-bits (λ a b. onGroup operation (a * allOnes) (b * allOnes) ≡ answer operation a b * allOnes)
@@ -113,15 +116,13 @@ module _ (operation : Operation) (bits : GivesBits operation) where
 
   -- where the two make a group that is not uniform, one of them is not uniform and stands alone
   pub alone-onGroup : (x m y n count : ℕ) → Alone x m → Alone y n → count ≤ m → count ≤ n → Alone (onGroup operation x y) count
-  alone-onGroup x m y n count a b h k none all = go (leb count 1) refl
-    where
-      go : (t : Bool) → leb count 1 ≡ t → count ≤ 1
-      go true e = leb-true count 1 e
-      go false e =
-          let many : 1 < count = leb-false count 1 e in
-          let (i, p, u) = long-uniform x m a (omega arith) in
-          let (j, q, v) = long-uniform y n b (omega arith) in
-          absurd (omega (arith, ap₂ (onGroup operation) u v ∙ onGroup-uniform i j p q, bits i j, none, all))
+  alone-onGroup x m y n count a b h k none all =
+      by-cases (decLt 1 count)
+      (λ many.
+      let (i, p, u) = long-uniform x m a (omega arith) in
+      let (j, q, v) = long-uniform y n b (omega arith) in
+      absurd (omega (arith, ap₂ (onGroup operation) u v ∙ onGroup-uniform i j p q, bits i j, none, all)))
+      (λ few. omega arith)
 
 -- ---- the machine's XOR, AND and OR
 

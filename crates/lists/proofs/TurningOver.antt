@@ -1,8 +1,8 @@
 -- A row turned over in some groups: by XOR with the list of that row alone, row by row, and in the number of ones. Assumes nothing.
 use mathlib.Core.Path.{_≡_, refl, _∙_, ap, sym}
 use mathlib.Core.Bool.{Bool, true, false}
-use mathlib.Core.List.{List, [], _∷_}
-use Prim.Native.Nat.{ℕ, suc, zero, _+_, _*_, _-_, _/_, _<_, _≤_}
+use mathlib.Core.List.{List}
+use Prim.Native.Nat.{ℕ, _+_, _*_, _-_, _/_, _<_, _≤_}
 use native.Mathlib.Omega.{arith}
 use lib.Dec.{eqb}
 use lib.ListN.{length, getD, set, length-set}
@@ -17,7 +17,8 @@ use Rattle.groups.proofs.Groups.{length-groupsOf, groupsOf-lt, length-rowsOf, a
 use Rattle.words.proofs.Round.{Groups, decode-encode, encode-form}
 use Rattle.groups.proofs.RowsBack.{rowAt-groupsOf, rows-back, same-groups}
 use Rattle.lists.specs.Combine.{exclusive, answer, combined}
-use Rattle.lists.specs.OneRow.{oneRow, turnedOver}
+use Rattle.lists.specs.OneRow.{turnedOver}
+use Rattle.lists.specs.Inner.{oneRow}
 use Rattle.lists.proofs.Operations.{exclusive-bits, turns}
 use Rattle.lists.proofs.Combining.{length-combined, combined-lt, rowAt-combined-any}
 use Rattle.lists.proofs.OneRow.{length-oneRow, rowAt-oneRow, rowAt-oneRow-other}
@@ -61,8 +62,8 @@ module _ (row : ℕ) (groups : List ℕ) where
   pub rowAt-turnedOver-other : (other : ℕ) → (other ≡ row → ⊥) → rowAt (turnedOver row groups) other ≡ rowAt groups other
   rowAt-turnedOver-other other e = rowAt-turned other ∙ getD-set-other (rowsOf groups) row other flipped 0 e ∙ getD-rowsOf groups other
 
-  -- THEOREM: no row behind the row is set that was not
-  pub clearFrom-turnedOver : (limit : ℕ) → row < limit → clearFrom limit (turnedOver row groups) ≡ clearFrom limit groups
+  -- THEOREM: no row after the row is set that was not
+  clearFrom-turnedOver : (limit : ℕ) → row < limit → clearFrom limit (turnedOver row groups) ≡ clearFrom limit groups
   unfolding clearFrom
   clearFrom-turnedOver limit h = rw rowsOf-turnedOver (ap allZero (drop-set-lt limit (rowsOf groups) row flipped h))
 

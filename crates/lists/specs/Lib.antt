@@ -1,2 +1,3 @@
 pub mod Combine
+pub mod Inner
 pub mod OneRow

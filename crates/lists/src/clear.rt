@@ -3,7 +3,7 @@ ghost use mathlib.Core.Path.{_≡_};
 ghost use Prim.Native.Nat.{_≤_};
 ghost use Rattle.groups.specs.Rows.{rowLimit, clearFrom};
 ghost use Rattle.words.specs.Words.{decode};
-ghost use Rattle.lists.specs.Combine.{Covers};
+ghost use Rattle.lists.specs.Inner.{Covers};
 use words::word::group_in;
 use words::word::span_of;
 

@@ -1,6 +1,6 @@
 // The list of one row alone: at most three words.
 ghost use Prim.Native.Nat.{_/_, _<_, _≤_};
-ghost use Rattle.lists.specs.OneRow.{oneRow, Packs};
+ghost use Rattle.lists.specs.Inner.{oneRow, Packs};
 use groups::rows::MASKS;
 use words::writer::Pending;
 use words::writer::finish;
@@ -19,7 +19,7 @@ pub fn one_row(groups: u32, row: u32) -> Short
     ensures { λ r. ⌜ Packs (oneRow groups row) r ⌝ }
 {
     let before = row / 31;
-    let behind = groups - before - 1;
+    let after = groups - before - 1;
     let place = (row % 31) as usize;
     let mut words = [0u32; 3];
     let literal = next_step(
@@ -31,14 +31,14 @@ pub fn one_row(groups: u32, row: u32) -> Short
         1,
     );
     let at = store(&mut words, 0, literal);
-    if behind == 0 {
+    if after == 0 {
         let count = finish(&mut words, at, literal.pending);
         return Short {
             words: words,
             count: count,
         };
     }
-    let zeros = next_step(literal.pending, 0, behind);
+    let zeros = next_step(literal.pending, 0, after);
     let end = store(&mut words, at, zeros);
     let count = finish(&mut words, end, zeros.pending);
     Short {

@@ -1,5 +1,5 @@
 -- Pack and Unpack undo each other, and each promise allows one answer and one output. Assumes nothing.
-use mathlib.Core.Path.{_≡_, refl, _∙_, ap}
+use mathlib.Core.Path.{_≡_, _∙_, ap}
 use mathlib.Core.Bool.{true, not}
 use mathlib.Core.List.{List}
 use Prim.Native.Nat.{ℕ, _≤_}
@@ -19,13 +19,13 @@ use Rattle.words.proofs.Canonical.{packed-canonical, unpacked-packed, unpacked-
 -- ---- Pack
 
 -- what has to hold for Pack to write
-pub record CanPack (rows out : List ℕ) : Type 0 where
-  pub bits : areBits rows ≡ true
-  pub few : length rows ≤ rowLimit
-  pub room : length (packed rows) ≤ length out
+record CanPack (rows out : List ℕ) : Type 0 where
+  bits : areBits rows ≡ true
+  few : length rows ≤ rowLimit
+  room : length (packed rows) ≤ length out
 
 module _ (rows out : List ℕ) where
-  pub pack-accepted : packOutcome rows out .answer .number ≡ 0 → CanPack rows out
+  pack-accepted : packOutcome rows out .answer .number ≡ 0 → CanPack rows out
   unfolding packOutcome
   pack-accepted e =
       let p = accepted (packChecks rows out) (packed rows) out e in
@@ -35,7 +35,7 @@ module _ (rows out : List ℕ) where
         room = ltb-false (length out) (length (packed rows)) (p .1 .1 .0);
       }
 
-  pub pack-done : CanPack rows out → packOutcome rows out ≡ done (packed rows) out
+  pack-done : CanPack rows out → packOutcome rows out ≡ done (packed rows) out
   unfolding packOutcome
   pack-done can =
       passes-done (packChecks rows out) (packed rows) out
@@ -50,7 +50,7 @@ pub record CanUnpack (list : List ℕ) (count : ℕ) (out : List ℕ) : Type 0 w
   pub good : canonical count list ≡ true
 
 module _ (list : List ℕ) (count : ℕ) (out : List ℕ) where
-  pub unpack-accepted : unpackOutcome list count out .answer .number ≡ 0 → CanUnpack list count out
+  unpack-accepted : unpackOutcome list count out .answer .number ≡ 0 → CanUnpack list count out
   unfolding unpackOutcome
   unpack-accepted e =
       let p = accepted (unpackChecks list count out) (unpacked count list) out e in

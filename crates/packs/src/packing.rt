@@ -16,8 +16,8 @@ use groups::rows::all_bits;
 use groups::rows::group_of;
 use groups::rows::groups_for;
 use groups::rows::smaller;
+use words::give::give_list;
 use words::writer::Pending;
-use words::writer::copy;
 use words::writer::finish;
 use words::writer::next_step;
 use words::writer::store;
@@ -42,18 +42,14 @@ fn pack_into(rows: &[u8], out: &mut [u32]) -> usize
 }
 
 // As `pack` of rows that are in order, where the output may be too short for their list: the list is
-// made aside, and the output is touched only if the list fits.
+// made aside and then given.
 fn pack_aside(rows: &[u8], out: &mut [u32]) -> Answer
     requires { ⌜ (areBits (now rows) ≡ true) × (length (now rows) ≤ rowLimit) ⌝ }
     ensures { λ r. ⌜ Gives (packOutcome (now (rows .entry)) (now (out .entry))) r (now (out .exit)) ⌝ }
 {
     let mut list = [0u32; GROUP_LIMIT];
     let length = pack_into(rows, &mut list);
-    if out.len() < length {
-        return Answer::Refused(Refusal::OutSmall);
-    }
-    copy(&list[..length], out);
-    Answer::Done(length)
+    give_list(&list[..length], out)
 }
 
 // Pack: writes the canonical list of some rows, a byte 0 or 1 each, and answers its length in words.

@@ -9,10 +9,11 @@ ghost use Rattle.words.specs.Words.{runOf, span, decode};
 ghost use Rattle.packs.specs.Calls.{unpackOutcome};
 use answers::Answer;
 use answers::Refusal;
-use checks::check::Checked;
-use checks::check::check;
 use groups::rows::ROW_LIMIT;
 use groups::rows::put_rows;
+use groups::rows::smaller;
+use list_check::check::Checked;
+use list_check::check::check;
 use words::word::fill_bit;
 use words::word::is_fill;
 use words::word::span_of;
@@ -33,8 +34,7 @@ fn end_of(word: u32, at: usize, length: usize) -> usize
     requires { ⌜ (at ≤ length) × (length ≤ rowLimit) ⌝ }
     ensures { λ r. ⌜ r ≡ min (at + 31 * span (runOf word)) length ⌝ }
 {
-    let end = at + 31 * (span_of(word) as usize);
-    if end < length { end } else { length }
+    smaller(at + 31 * (span_of(word) as usize), length)
 }
 
 // Writes the first rows of a word, as many as `out` has room for.

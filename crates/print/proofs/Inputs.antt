@@ -13,7 +13,7 @@ use Rattle.answers.specs.declared.Refusal.the-variants.{BadFrame}
 use Rattle.print.specs.Frame.{lineLength, lineIn}
 use Rattle.print.specs.Text.{refusalLine}
 use Rattle.print.specs.Printed.{printed}
-use Rattle.print.proofs.Digits.{line-short, line-long, too-long}
+use Rattle.print.proofs.Frames.{line-short, line-long, too-long}
 use Rattle.print.proofs.Lines.{bad-frame}
 
 -- THEOREM: an input of more than 8,017 bytes, the longest line and its newline, is BAD_FRAME

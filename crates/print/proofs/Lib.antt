@@ -1,5 +1,5 @@
 pub mod Cases
-pub mod Digits
+pub mod Frames
 pub mod Inputs
 pub mod Lines
 pub mod Room

@@ -15,10 +15,10 @@ use Rattle.answers.specs.declared.Answer.{Answer}
 use Rattle.answers.specs.declared.Refusal.{Refusal}
 use Rattle.answers.specs.declared.Refusal.the-variants.{BadFrame}
 use Rattle.answers.proofs.Accepted.{Passes, no-zero}
-use Rattle.steps.specs.Memory.{Memory}
+use Rattle.memory.specs.Memory.{Memory}
 use Rattle.index.specs.Calls.{queryChecks, queryList, queryOutcome}
-use Rattle.steps.specs.declared.header.Header.{Header}
-use Rattle.fences.proofs.Planning.{one-more}
+use Rattle.memory.specs.declared.header.Header.{Header}
+use Rattle.memory.proofs.Places.{one-more}
 use Rattle.print.specs.Frame.{isFrame, rowsIn, valuesIn, thresholdIn, spacingIn, columnIn}
 use Rattle.print.specs.Text.{valueLine, refusalLine}
 use Rattle.print.specs.Printed.{unlessRefused, answerLine, queryLine, valueLines, columnLines, frameLines}

@@ -12,14 +12,16 @@ use Rattle.answers.specs.Numbers.{numberOf}
 use Rattle.answers.specs.Outcome.{Check, _when_}
 use Rattle.answers.specs.declared.Refusal.the-variants.{BadFrame}
 use Rattle.answers.proofs.Accepted.{Passes}
-use Rattle.blocks.specs.Shape.{Limits, blockSize, fenceCount}
+use Rattle.blocks.specs.Sizes.{blockSize, fenceCount}
+use Rattle.blocks.specs.Inner.{Limits}
 use Rattle.blocks.proofs.WholeLists.{current-fits}
-use Rattle.steps.specs.Entry.{noHeader}
-use Rattle.steps.specs.Memory.{Memory, limits, withinLimits, shapeOf, lent, blockAt, rowsIn}
-use Rattle.steps.specs.Outcomes.{After, made, change}
-use Rattle.index.specs.Calls.{whole, queryList, queryChecks, loadHeader, loadChecks, loadedIn, loadAfter}
-use Rattle.steps.specs.declared.header.Header.{Header}
-use Rattle.steps.proofs.Headers.{within, within-limits}
+use Rattle.memory.specs.Entry.{noHeader}
+use Rattle.memory.specs.Memory.{Memory, limits, withinLimits, sizesOf, lent, blockAt, rowsIn}
+use Rattle.memory.specs.Outcomes.{After, made, change}
+use Rattle.change_value.specs.Change.{whole}
+use Rattle.index.specs.Calls.{queryList, queryChecks, loadHeader, loadChecks, loadedIn, loadAfter}
+use Rattle.memory.specs.declared.header.Header.{Header}
+use Rattle.memory.proofs.Headers.{within, within-limits}
 use Rattle.print.specs.Frame.{isFrame, rowsIn as rowsSaid, valuesIn, thresholdIn, spacingIn, columnIn}
 use Rattle.print.specs.Text.{refusalLine}
 use Rattle.print.specs.Printed.{cleared, queryLine, valueLines, loadLines, columnLines, frameLines}
@@ -35,29 +37,29 @@ short-lines (refusal when true ∷ checks) back memory after most h fits =
 short-lines (refusal when false ∷ checks) back memory after most h fits = short-lines checks back memory after most h (λ passes. fits (refl, passes))
 
 -- the words lent
-words-lent : (header : Header) (words fences : ℕ) → lent header words fences ≡ true → header .values * blockSize (shapeOf header) ≤ words
+words-lent : (header : Header) (words fences : ℕ) → lent header words fences ≡ true → header .values * blockSize (sizesOf header) ≤ words
 unfolding lent
 words-lent header words fences =
-    go (leb (header .values * blockSize (shapeOf header)) words) (leb (header .values * fenceCount (shapeOf header)) fences) refl
+    go (leb (header .values * blockSize (sizesOf header)) words) (leb (header .values * fenceCount (sizesOf header)) fences) refl
   where
-    go : (some more : Bool) → leb (header .values * blockSize (shapeOf header)) words ≡ some → (some && more) ≡ true
-        → header .values * blockSize (shapeOf header) ≤ words
-    go true more e is = leb-true (header .values * blockSize (shapeOf header)) words e
+    go : (some more : Bool) → leb (header .values * blockSize (sizesOf header)) words ≡ some → (some && more) ≡ true
+        → header .values * blockSize (sizesOf header) ≤ words
+    go true more e is = leb-true (header .values * blockSize (sizesOf header)) words e
     go false more e is = let z : _≡_ {A = ℕ} 0 1 = cc in absurd (omega arith)
 
-module _ (header : Header) (memory : Memory) (limited : Limits (shapeOf header)) where
+module _ (header : Header) (memory : Memory) (limited : Limits (sizesOf header)) where
   -- the list of a value whose Query passes
-  list-short : (value : ℕ) → Passes (queryChecks header memory value (replicate 4096 0)) → 8 * length (queryList header memory value) + 3 ≤ 8 * blockSize (shapeOf header)
+  list-short : (value : ℕ) → Passes (queryChecks header memory value (replicate 4096 0)) → 8 * length (queryList header memory value) + 3 ≤ 8 * blockSize (sizesOf header)
   unfolding whole queryList rowsIn
   list-short value passes =
-      let intact = not-false (whole header memory value) (passes .1 .1 .1 .0) in
-      omega (arith, current-fits (shapeOf header) limited (blockAt header (memory .words) value) intact)
+      let intact = not-false (whole (sizesOf header) (memory .words) value) (passes .1 .1 .1 .0) in
+      omega (arith, current-fits (sizesOf header) limited (blockAt (sizesOf header) (memory .words) value) intact)
 
-  line-short : (value : ℕ) → length (queryLine header memory value) ≤ 8 * blockSize (shapeOf header)
-  line-short value = query-short header memory value (8 * blockSize (shapeOf header)) (omega arith) (list-short value)
+  line-short : (value : ℕ) → length (queryLine header memory value) ≤ 8 * blockSize (sizesOf header)
+  line-short value = query-short header memory value (8 * blockSize (sizesOf header)) (omega arith) (list-short value)
 
-  pub lines-short : length (valueLines header memory (header .values)) ≤ 8 * (header .values * blockSize (shapeOf header))
-  lines-short = rw (← mul-left-comm (header .values) 8 (blockSize (shapeOf header))) (lines-below header memory (8 * blockSize (shapeOf header)) line-short (header .values))
+  lines-short : length (valueLines header memory (header .values)) ≤ 8 * (header .values * blockSize (sizesOf header))
+  lines-short = rw (← mul-left-comm (header .values) 8 (blockSize (sizesOf header))) (lines-below header memory (8 * blockSize (sizesOf header)) line-short (header .values))
 
 -- the words of the cleared memory
 cleared-words : length (cleared .words) ≡ 8192
@@ -71,23 +73,23 @@ module _ (rows values threshold spacing : ℕ) (column : List ℕ) where
   abbrev checks : List Check
   checks = loadChecks rows values threshold spacing column cleared
 
-  accepted-limits : Passes checks → Limits (shapeOf header)
+  accepted-limits : Passes checks → Limits (sizesOf header)
   unfolding withinLimits
   accepted-limits passes =
       let bounds = not-false (limits rows values threshold spacing) (passes .0) in
       let few = ltb-false rows (length column) (passes .1 .1 .1 .0) in
       within-limits header (within header (rw (bounds, le-leb (length column) rows few) refl))
 
-  accepted-short : Passes checks → length (valueLines header (loadedIn header column values cleared) values) ≤ 65536
+  accepted-short : Passes checks → length (valueLines header (loadedIn (sizesOf header) column values cleared) values) ≤ 65536
   accepted-short passes =
       let lends = not-false (lent header (length (cleared .words)) (length (cleared .fences))) (passes .1 .0) in
       let room = words-lent header (length (cleared .words)) (length (cleared .fences)) lends in
-      omega (arith, lines-short header (loadedIn header column values cleared) (accepted-limits passes), room, cleared-words)
+      omega (arith, lines-short header (loadedIn (sizesOf header) column values cleared) (accepted-limits passes), room, cleared-words)
 
   -- THEOREM: what a load prints fits 65,536 bytes
   pub column-short : length (columnLines rows values threshold spacing column) ≤ 65536
   unfolding columnLines loadAfter
-  column-short = short-lines checks noHeader cleared (made 0 header (loadedIn header column values cleared)) 65536 (omega arith) accepted-short
+  column-short = short-lines checks noHeader cleared (made 0 header (loadedIn (sizesOf header) column values cleared)) 65536 (omega arith) accepted-short
 
 -- THEOREM: whatever a line says, what is printed for it fits 65,536 bytes
 pub frame-short : (line : List ℕ) → length (frameLines line) ≤ 65536

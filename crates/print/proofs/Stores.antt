@@ -1,29 +1,20 @@
--- Laws of texts that are written one behind the other. Assumes nothing.
-use mathlib.Core.Path.{_≡_, refl, _∙_, ap, sym}
+-- Laws of texts that are written one after the other. Assumes nothing.
+use mathlib.Core.Path.{_≡_, refl, _∙_, sym}
 use mathlib.Core.List.{List, [], _∷_, _++_}
-use Prim.Native.Nat.{ℕ, zero, suc, _+_, _-_, _*_, _/_, _%_, _^_, _<_, _≤_}
+use Prim.Native.Nat.{ℕ, suc, _+_, _*_, _<_, _≤_}
 use native.Mathlib.Nat.{zero-add}
 use native.Mathlib.Numerals.{add-one}
 use native.Mathlib.Omega.{arith}
-use lib.ListN.{length, getD, set, drop, length-append}
+use lib.ListN.{length, getD, drop, length-append}
 use lib.Seq.{sets, sets-eq, drop-cons}
 use Rattle.groups.proofs.Sets.{sets-append}
-use Rattle.print.specs.Text.{hexDigit, hexDigits, hexWords, newline, valueLine, refusalLine}
+use Rattle.digits.specs.Digits.{hexDigits}
+use Rattle.digits.proofs.Digits.{length-digits}
+use Rattle.print.specs.Text.{hexWords, newline, valueLine, refusalLine}
 
 -- a text over the front
 pub sets-over : (out text : List ℕ) → length text ≤ length out → sets out 0 text ≡ text ++ drop (length text) out
 sets-over out text h = sets-eq text out 0 (omega arith) ∙ rw zero-add refl
-
-pub length-digits : (count number : ℕ) → length (hexDigits count number) ≡ count
-length-digits zero number = refl
-length-digits (suc count) number = ap suc (length-digits count number)
-
--- one digit more
-pub digit-put : (out : List ℕ) (next left number : ℕ) → 0 < left
-    → sets (set out next (hexDigit (number / 2 ^ (4 * (left - 1)) % 16))) (next + 1) (hexDigits (left - 1) number) ≡ sets out next (hexDigits left number)
-digit-put out next zero number h = absurd (omega arith)
-digit-put out next (suc left) number h =
-    let before : suc left - 1 ≡ left = omega arith in rw (before, add-one) refl
 
 pub length-words : (list : List ℕ) → length (hexWords list) ≡ 8 * length list
 length-words [] = refl
@@ -38,7 +29,7 @@ word-put out list next i h =
 
 -- ---- lines
 
--- two texts and a newline, each written behind the one before
+-- two texts and a newline, each written after the one before
 module _ (out : List ℕ) (at : ℕ) (first second : List ℕ) (out₁ out₂ out₃ : List ℕ) (next₁ next₂ next₃ : ℕ) where
   pub line-put : next₁ ≡ at + length first → out₁ ≡ sets out at first
       → next₂ ≡ next₁ + length second → out₂ ≡ sets out₁ next₁ second
@@ -50,7 +41,7 @@ module _ (out : List ℕ) (at : ℕ) (first second : List ℕ) (out₁ out₂ ou
         ∙ rw (f₂, f₁, e₂, e₁, sets-append out at first (second ++ newline), sets-append (sets out at first) (at + length first) second newline) refl,
   )
 
-pub length-line : (first second : List ℕ) → length (first ++ (second ++ newline)) ≡ length first + length second + 1
+length-line : (first second : List ℕ) → length (first ++ (second ++ newline)) ≡ length first + length second + 1
 length-line first second = omega (arith, length-append first (second ++ newline), length-append second newline)
 
 pub length-value : (value : ℕ) (list : List ℕ) → length (valueLine value list) ≡ 8 * length list + 3

@@ -2,14 +2,9 @@
 use mathlib.Core.Path.{_≡_}
 use mathlib.Core.List.{List, [], _∷_, map}
 use Prim.Native.Nat.{ℕ}
-use Prim.Native.Char.{code}
-use Prim.Native.String.{String, [] as no-text, _∷_ as _then_}
+use Prim.Native.String.{String}
+use Rattle.digits.specs.Ascii.{bytes}
 use Rattle.print.specs.Printed.{printed}
-
--- the bytes of a text in ASCII
-abbrev pub bytes : String → List ℕ
-bytes no-text = []
-bytes (char then text) = code char ∷ bytes text
 
 infix 10 _prints_
 -- an input, and what is printed for it

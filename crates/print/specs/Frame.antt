@@ -1,29 +1,10 @@
 -- Document 01, "The printing program": what an input line says. Bytes are ASCII.
-use mathlib.Core.Bool.{Bool, true, cond, _&&_, _||_}
+use mathlib.Core.Bool.{Bool, cond, _&&_}
 use mathlib.Core.List.{List, [], _∷_}
 use Prim.Native.Nat.{ℕ, _+_, _-_, _*_, _%_}
 use lib.Dec.{leb, eqb}
 use lib.ListN.{length, getD, take, drop}
-
--- a digit of lower-case hexadecimal: `0` to `9` or `a` to `f`
-unfoldable pub isDigit : ℕ → Bool
-isDigit byte = (leb 48 byte && leb byte 57) || (leb 97 byte && leb byte 102)
-
--- the number below 16 that a digit stands for; 0 for any other byte
-unfoldable pub digitValue : ℕ → ℕ
-digitValue byte = cond (isDigit byte) (cond (leb byte 57) (byte - 48) (byte - 87)) 0
-
-abbrev pub areDigits : List ℕ → Bool
-areDigits [] = true
-areDigits (byte ∷ bytes) = isDigit byte && areDigits bytes
-
--- the number that some digits stand for, behind the digits of another
-abbrev pub numberFrom : ℕ → List ℕ → ℕ
-numberFrom before [] = before
-numberFrom before (digit ∷ digits) = numberFrom (before * 16 + digitValue digit) digits
-
-abbrev pub numberIn : List ℕ → ℕ
-numberIn digits = numberFrom 0 digits
+use Rattle.digits.specs.Digits.{areDigits, digitValue, numberIn}
 
 -- the column: 2 digits a row
 abbrev pub columnIn : List ℕ → List ℕ

@@ -5,17 +5,17 @@ use Prim.Native.Nat.{ℕ, zero, suc}
 use lib.ListN.{take, drop, replicate}
 use Rattle.answers.specs.Numbers.{Paper, numberOf}
 use Rattle.answers.specs.declared.Refusal.the-variants.{BadFrame}
-use Rattle.steps.specs.Fences.{fence}
-use Rattle.steps.specs.Memory.{Memory, memoryOf}
-use Rattle.steps.specs.Outcomes.{After}
+use Rattle.block_read.specs.Fences.{fenceOf}
+use Rattle.memory.specs.Memory.{Memory, memoryOf}
+use Rattle.memory.specs.Outcomes.{After}
 use Rattle.index.specs.Calls.{loadAfter, queryOutcome}
-use Rattle.steps.specs.declared.header.Header.{Header}
+use Rattle.memory.specs.declared.header.Header.{Header}
 use Rattle.print.specs.Frame.{lineIn, isFrame, rowsIn, valuesIn, thresholdIn, spacingIn, columnIn}
 use Rattle.print.specs.Text.{valueLine, refusalLine}
 
 -- 8,192 words and 1,024 fences, cleared before the load
 unfoldable pub cleared : Memory
-cleared = memoryOf (replicate 8192 0) (replicate 1024 (fence 0 0))
+cleared = memoryOf (replicate 8192 0) (replicate 1024 (fenceOf 0 0))
 
 -- the lines of a call with such a number: those it earns, or the one line of its refusal
 abbrev pub unlessRefused : ℕ → List ℕ → List ℕ

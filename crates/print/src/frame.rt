@@ -1,50 +1,13 @@
-// What an input line says: its digits, its numbers and its column.
+// What an input line says: whether it is a frame, its numbers and its column.
 ghost use mathlib.Core.Path.{_≡_};
 ghost use mathlib.Core.List.{_++_};
-ghost use Prim.Native.Nat.{_+_, _-_, _*_, _/_, _<_, _≤_};
+ghost use Prim.Native.Nat.{_+_, _-_, _*_, _/_, _≤_};
 ghost use lib.ListN.{length, take, drop};
-ghost use Rattle.print.specs.Frame.{isDigit, digitValue, areDigits, numberIn, columnIn, lineLength, isFrame};
-
-fn is_digit(byte: u8) -> bool
-    ensures { λ r. ⌜ r ≡ isDigit byte ⌝ }
-{
-    if byte < b'0' {
-        return false;
-    }
-    if byte <= b'9' {
-        return true;
-    }
-    if byte < b'a' {
-        return false;
-    }
-    byte <= b'f'
-}
-
-// The number below 16 that a digit stands for; 0 for any other byte.
-fn digit_value(byte: u8) -> u8
-    ensures { λ r. ⌜ r ≡ digitValue byte ⌝ }
-{
-    if !is_digit(byte) {
-        return 0;
-    }
-    if byte <= b'9' {
-        return byte - b'0';
-    }
-    byte - 87
-}
-
-fn all_digits(line: &[u8]) -> bool
-    ensures { λ r. ⌜ r ≡ areDigits (now (line .entry)) ⌝ }
-{
-    let mut i: usize = 0;
-    while i < line.len() {
-        if !is_digit(line[i]) {
-            return false;
-        }
-        i += 1;
-    }
-    true
-}
+ghost use Rattle.digits.specs.Digits.{digitValue, numberIn};
+ghost use Rattle.print.specs.Frame.{columnIn, lineLength, isFrame};
+use digits::reading::all_digits;
+use digits::reading::digit_value;
+use digits::reading::number_in;
 
 // Whether a line is R, d, T and G in 16 digits, and then 2 for each of at most 4,000 rows.
 pub fn is_frame(line: &[u8]) -> bool
@@ -76,33 +39,12 @@ pub fn line_length(input: &[u8]) -> usize
     input.len()
 }
 
-fn one_more_digit(number: u32, digit: u8) -> u32
-    requires { ⌜ (number < 0x10000000) × (digit < 16) ⌝ }
-    ensures { λ r. ⌜ r ≡ number * 16 + digit ⌝ }
-{
-    number * 16 + digit as u32
-}
-
-// The number of at most 8 digits.
-fn number(digits: &[u8]) -> u32
-    requires { ⌜ length (now digits) ≤ 8 ⌝ }
-    ensures { λ r. ⌜ r ≡ numberIn (now (digits .entry)) ⌝ }
-{
-    let mut number: u32 = 0;
-    let mut i: usize = 0;
-    while i < digits.len() {
-        number = one_more_digit(number, digit_value(digits[i]));
-        i += 1;
-    }
-    number
-}
-
 // The number of the digits from one place up to another.
 pub fn number_at(line: &[u8], from: usize, to: usize) -> u32
     requires { ⌜ (from ≤ to) × (to ≤ from + 8) × (to ≤ length (now line)) ⌝ }
     ensures { λ r. ⌜ r ≡ numberIn (take (to - from) (drop from (now (line .entry)))) ⌝ }
 {
-    number(&line[from..to])
+    number_in(&line[from..to])
 }
 
 fn byte_of(high: u8, low: u8) -> u8

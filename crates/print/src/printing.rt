@@ -6,7 +6,7 @@ ghost use Prim.Native.Nat.{_+_, _≤_};
 ghost use lib.ListN.{length, drop};
 ghost use lib.Seq.{sets};
 ghost use Rattle.answers.specs.Numbers.{paper};
-ghost use Rattle.steps.specs.Memory.{memoryOf};
+ghost use Rattle.memory.specs.Memory.{memoryOf};
 ghost use Rattle.print.specs.Frame.{isFrame};
 ghost use Rattle.print.specs.Printed.{answerLine, valueLines, columnLines, frameLines, printed};
 use crate::frame::is_frame;
@@ -17,10 +17,10 @@ use crate::text::put_refusal;
 use crate::text::put_value;
 use answers::Answer;
 use answers::Refusal;
+use block_read::fence::Fence;
 use index::answering::query;
 use index::loading::load;
-use steps::header::Fence;
-use steps::header::Header;
+use memory::header::Header;
 
 // Document 01's number of an answer.
 fn number_of(answer: Answer) -> u32

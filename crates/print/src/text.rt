@@ -1,35 +1,10 @@
-// Digits and lines, written to an output from a place on. Each function answers the next place.
+// Words and lines, written to an output from a place on. Each function answers the next place.
 ghost use mathlib.Core.Path.{_≡_};
 ghost use Prim.Native.Nat.{_+_, _<_, _≤_};
 ghost use lib.ListN.{length};
 ghost use lib.Seq.{sets};
-ghost use Rattle.print.specs.Text.{hexDigit, hexDigits, hexWords, newline, valueLine, refusalLine};
-
-fn hex_digit(number: u32) -> u8
-    requires { ⌜ number < 16 ⌝ }
-    ensures { λ r. ⌜ r ≡ hexDigit number ⌝ }
-{
-    if number < 10 {
-        b'0' + number as u8
-    } else {
-        87 + number as u8
-    }
-}
-
-// The last `count` digits of a number, the highest first.
-fn put_digits(out: &mut [u8], at: usize, number: u32, count: usize) -> usize
-    requires { ⌜ (count ≤ 8) × (at + count ≤ length (now out)) ⌝ }
-    ensures { λ r. ⌜ (r ≡ at + count) × (now (out .exit) ≡ sets (now (out .entry)) at (hexDigits count number)) ⌝ }
-{
-    let mut left = count;
-    let mut next = at;
-    while 0 < left {
-        left -= 1;
-        out[next] = hex_digit((number >> (4 * left)) % 16);
-        next += 1;
-    }
-    next
-}
+ghost use Rattle.print.specs.Text.{hexWords, newline, valueLine, refusalLine};
+use digits::writing::put_digits;
 
 fn put_words(list: &[u32], out: &mut [u8], at: usize) -> usize
     requires { ⌜ at + length (hexWords (now list)) ≤ length (now out) ⌝ }

@@ -41,7 +41,7 @@ module _ (rows : List ℕ) (bits : areBits rows ≡ true) (few : length rows ≤
   few-groups : length (groupsOf rows) < 0x40000000
   few-groups = omega (arith, length-groupsOf rows)
 
-  pub decode-packed : decode (packed rows) ≡ groupsOf rows
+  decode-packed : decode (packed rows) ≡ groupsOf rows
   unfolding packed
   decode-packed = decode-encode (groupsOf rows) (groupsOf-lt rows bits) few-groups
 

@@ -1,4 +1,4 @@
--- Words of a list that keeps the form stand as they are among the words of their groups, if the group that comes behind them does. Assumes nothing.
+-- Words of a list that keeps the form stand as they are among the words of their groups, if the group that comes after them does. Assumes nothing.
 use mathlib.Core.Path.{_≡_, refl, _∙_, ap}
 use mathlib.Core.Bool.{true}
 use mathlib.Core.List.{List, [], _∷_, _++_, map, append-assoc}
@@ -7,7 +7,7 @@ use native.Mathlib.Omega.{arith}
 use lib.ListN.{length, take, replicate}
 use Rattle.words.specs.Words.{Run, Run.literal, Run.fill, allOnes, wordOf, runOf, span, groupIn, runsOf, decode, encode}
 use Rattle.words.specs.Words.{keepsForm, bitAfter, wellFormed}
-use Rattle.words.specs.Writer.{after, lastWords}
+use Rattle.words.specs.Inner.{after, lastWords}
 use Rattle.words.specs.declared.writer.Pending.{Pending}
 use Rattle.words.proofs.Runs.{Apart, runs-uniform, fills-apart, group-apart, last-run, literal-word}
 use Rattle.words.proofs.Forms.{groupsOfRun, runAt, keeps-literal, keeps-fill, keeps-first, keeps-covers}
@@ -57,14 +57,14 @@ first-word before (fill bit zero) rest narrow keeps apart = absurd (omega (arith
 first-word before (fill bit (suc count)) rest narrow keeps apart =
     ap (map wordOf) (runs-uniform bit (suc count) rest (narrow .0) ∙ fills-apart bit count (runsOf rest) (apart bit (narrow .0) refl))
 
--- the run behind a fill is of another kind
+-- the run after a fill is of another kind
 kinds-differ : (bit : ℕ) (run : Run) → bit < 2 → Narrow run → keepsForm bit run ≡ true → groupIn run ≡ bit * allOnes → ⊥
 kinds-differ zero (literal group) h narrow keeps e = keeps-literal 0 group keeps .0 e
 kinds-differ (suc zero) (literal group) h narrow keeps e = keeps-literal 1 group keeps .1 e
 kinds-differ (suc (suc bit)) (literal group) h narrow keeps e = omega arith
 kinds-differ bit (fill other count) h narrow keeps e = keeps-fill bit other count keeps .0 (omega arith)
 
--- THEOREM: the first words of a list that keeps the form are written as they are in front of the next group, whatever comes behind it
+-- THEOREM: the first words of a list that keeps the form are written as they are in front of the next group, whatever comes after it
 pub copied-words : (before : ℕ) (list : List ℕ) (count : ℕ) (rest : List ℕ) → Words list → wellFormed before (map runOf list) ≡ true → count < length list
     → encode (upTo list count rest) ≡ take count list ++ encode (groupIn (runAt list count) ∷ rest)
 copied-words before [] count rest words form h = absurd (omega arith)

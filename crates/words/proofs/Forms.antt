@@ -1,8 +1,10 @@
 -- Laws of the form and of the groups of a list, one word after the other from the left. Assumes nothing.
 use mathlib.Core.Path.{_≡_, refl, _∙_, ap, sym}
 use mathlib.Core.Bool.{true, not, _&&_, and-assoc, and-true, and-eq-true-iff}
+use mathlib.Core.Logic.{by-cases}
 use mathlib.Core.List.{List, [], _∷_, _++_, map, map-append, append-assoc, append-nil}
 use Prim.Native.Nat.{ℕ, _+_, _<_, _≤_}
+use native.Mathlib.Decide.{decLt}
 use native.Mathlib.Omega.{arith}
 use native.Mathlib.Numerals.{add-one}
 use lib.Dec.{eqb, ltb}
@@ -33,13 +35,13 @@ pub keeps-first : (before : ℕ) (run : Run) (runs : List Run)
     → wellFormed before (run ∷ runs) ≡ true → (keepsForm before run ≡ true) × (wellFormed (bitAfter run) runs ≡ true)
 keeps-first before run runs e = and-eq-true-iff (keepsForm before run) (wellFormed (bitAfter run) runs) .0 e
 
--- runs that keep the form behind a bit do not begin with a fill of it
+-- runs that keep the form after a bit do not begin with a fill of it
 pub form-apart : (before : ℕ) (runs : List Run) → wellFormed before runs ≡ true → Apart before runs
 form-apart before [] e = tt
 form-apart before (literal group ∷ runs) e = tt
 form-apart before (fill bit count ∷ runs) e = keeps-fill before bit count (keeps-first before (fill bit count) runs e .0) .0
 
--- and those that do not keep it behind that bit too
+-- and those that do not begin with a fill of a bit keep it after that bit too
 pub apart-form : (before other : ℕ) (runs : List Run) → Apart other runs → wellFormed before runs ≡ true → wellFormed other runs ≡ true
 apart-form before other [] a e = refl
 apart-form before other (literal group ∷ runs) a e = e
@@ -47,13 +49,13 @@ apart-form before other (fill bit count ∷ runs) a e =
     let s = keeps-first before (fill bit count) runs e in
     rw (ne-eqb other bit a, lt-ltb 0 count (keeps-fill before bit count (s .0) .1)) (s .1)
 
--- ---- runs, and runs behind them
+-- ---- runs, and runs after them
 
 -- the groups of one run
 abbrev pub groupsOfRun : Run → List ℕ
 groupsOfRun run = replicate (span run) (groupIn run)
 
--- the bit before what comes behind some runs
+-- the bit before what comes after some runs
 abbrev pub bitPast : ℕ → List Run → ℕ
 bitPast before [] = before
 bitPast before (run ∷ runs) = bitPast (bitAfter run) runs
@@ -66,15 +68,15 @@ groups-append (run ∷ runs) rest =
 pub length-groups : (run : Run) (runs : List Run) → length (groupsIn (run ∷ runs)) ≡ span run + length (groupsIn runs)
 length-groups run runs = length-append (groupsOfRun run) (groupsIn runs) ∙ simp length-replicate
 
--- the form is kept by some runs and, from the bit they end with, by those behind them
-pub form-append : (before : ℕ) (runs rest : List Run)
+-- the form is kept by some runs and, from the bit they end with, by those after them
+form-append : (before : ℕ) (runs rest : List Run)
     → wellFormed before (runs ++ rest) ≡ (wellFormed before runs && wellFormed (bitPast before runs) rest)
 form-append before [] rest = refl
 form-append before (run ∷ runs) rest =
     ap (_&&_ (keepsForm before run)) (form-append (bitAfter run) runs rest)
     ∙ sym (and-assoc (keepsForm before run) (wellFormed (bitAfter run) runs) (wellFormed (bitPast (bitAfter run) runs) rest))
 
-pub bit-append : (before : ℕ) (runs rest : List Run) → bitPast before (runs ++ rest) ≡ bitPast (bitPast before runs) rest
+bit-append : (before : ℕ) (runs rest : List Run) → bitPast before (runs ++ rest) ≡ bitPast (bitPast before runs) rest
 bit-append before [] rest = refl
 bit-append before (run ∷ runs) rest = bit-append (bitAfter run) runs rest
 
@@ -133,3 +135,7 @@ module _ (list : List ℕ) (i : ℕ) (h : i < length list) where
 module _ (list : List ℕ) (i : ℕ) (h : length list ≤ i) where
   pub decode-end : decode (drop i list) ≡ []
   decode-end = rw (drop-of-length-le list h) refl
+
+-- where groups are left, a word is
+pub word-left : (list : List ℕ) (i : ℕ) → 0 < length (decode (drop i list)) → i < length list
+word-left list i some = by-cases (decLt i (length list)) (λ h. h) (λ h. absurd (omega (arith, ap length (decode-end list i (omega arith)))))

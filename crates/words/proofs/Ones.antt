@@ -47,7 +47,7 @@ onesIn-le (suc k) group = omega (arith, onesIn-le k group)
 pub onesIn-none : onesIn (bitsOf 31 0) ≡ 0
 onesIn-none = refl
 
-pub onesIn-full : onesIn (bitsOf 31 allOnes) ≡ 31
+onesIn-full : onesIn (bitsOf 31 allOnes) ≡ 31
 onesIn-full = refl
 
 -- the group that a fill repeats

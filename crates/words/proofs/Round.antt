@@ -1,18 +1,18 @@
--- Groups to words and back: encode and decode undo each other, and a list that keeps the form is the only one with its groups. Assumes nothing.
-use mathlib.Core.Path.{_≡_, refl, _∙_, ap, ap₂, sym}
+-- Groups to words and back: encode and decode undo each other. Assumes nothing.
+use mathlib.Core.Path.{_≡_, refl, _∙_, ap, ap₂}
 use mathlib.Core.Bool.{Bool, true, false, cond}
 use mathlib.Core.List.{List, [], _∷_, _++_, map}
 use Prim.Native.Nat.{ℕ, suc, zero, _+_, _*_, _/_, _%_, _<_, _≤_}
 use native.Mathlib.Omega.{arith}
 use lib.Dec.{ltb}
 use lib.ListN.{length, getD, replicate}
-use borrow.Author.Tests.{lt-ltb, le-ltb, ltb-true, ltb-false, ne-eqb}
+use borrow.Author.Tests.{lt-ltb, ltb-true, ltb-false, ne-eqb}
 use Rattle.words.specs.Words.{Run, Run.literal, Run.fill, allOnes, wordOf, runOf, groupsIn, decode}
 use Rattle.words.specs.Words.{addFill, addGroup, runsOf, encode, noFill, wellFormed}
 use Rattle.words.proofs.Runs.{addFills, runs-uniform, fills-apart, by-fill, by-group, groups-runs}
 use Rattle.words.proofs.word.Reading.{reads-literal, reads-fill}
 use Rattle.words.proofs.Forms.{length-groups, keeps-first, keeps-literal, keeps-fill, form-apart, apart-form}
-pub use Rattle.groups.specs.Rows.{Groups}
+pub use Rattle.groups.specs.Inner.{Groups}
 
 -- each of a list is a word of 32 bits, as in a slice
 abbrev pub Words : List ℕ → Type 0
@@ -79,7 +79,7 @@ runs-narrow (group ∷ groups) g h =
     let n : AllNarrow (runsOf groups) = runs-narrow groups (λ i. g (suc i)) (omega arith) in
     by-group AllNarrow group (runsOf groups) (λ bit b e. narrow-add-fill bit (runsOf groups) b (rw groups-runs (omega arith)) n) (λ p q. (g 0, n))
 
-pub read-encode : (groups : List ℕ) → Groups groups → length groups < 0x40000000 → map runOf (encode groups) ≡ runsOf groups
+read-encode : (groups : List ℕ) → Groups groups → length groups < 0x40000000 → map runOf (encode groups) ≡ runsOf groups
 read-encode groups g h = all-read-written (runsOf groups) (runs-narrow groups g h)
 
 -- THEOREM: decode after encode gives the groups back
@@ -125,11 +125,6 @@ runs-groups before (fill bit (suc count) ∷ runs) n e =
 -- THEOREM: encode after decode gives the list back, for a list that keeps the form
 pub encode-decode : (list : List ℕ) → Words list → wellFormed noFill (map runOf list) ≡ true → encode (decode list) ≡ list
 encode-decode list h e = ap (map wordOf) (runs-groups noFill (map runOf list) (all-read-narrow list) e) ∙ all-written-read list h
-
--- THEOREM: a list that keeps the form is the only one with its groups
-pub unique : (list other : List ℕ) → Words list → Words other
-    → wellFormed noFill (map runOf list) ≡ true → wellFormed noFill (map runOf other) ≡ true → decode list ≡ decode other → list ≡ other
-unique list other h k p q e = sym (encode-decode list h p) ∙ ap encode e ∙ encode-decode other k q
 
 -- ---- decode gives groups of 31 bits
 

@@ -7,14 +7,15 @@ use native.Mathlib.Omega.{arith}
 use native.Mathlib.Nat.{zero-add, suc-add}
 use lib.Dec.{eqb}
 use borrow.Author.Tests.{eqb-true, eqb-false, eq-eqb, ne-eqb}
-use Rattle.words.specs.Words.{Run, Run.literal, Run.fill, allOnes, uniform, wordOf, groupsIn, addFill, addGroup, runsOf, encode}
+use Rattle.words.specs.Words.{Run, Run.literal, Run.fill, allOnes, wordOf, groupsIn, addFill, addGroup, runsOf, encode}
+use Rattle.words.specs.Inner.{uniform}
 
 -- some runs with `count` groups of one bit in front
 abbrev pub addFills : ℕ → ℕ → List Run → List Run
 addFills bit zero runs = runs
 addFills bit (suc count) runs = addFill bit (addFills bit count runs)
 
-pub add-uniform : (bit : ℕ) → bit < 2 → (runs : List Run) → addGroup (bit * allOnes) runs ≡ addFill bit runs
+add-uniform : (bit : ℕ) → bit < 2 → (runs : List Run) → addGroup (bit * allOnes) runs ≡ addFill bit runs
 unfolding addGroup
 add-uniform zero h runs = refl
 add-uniform (suc zero) h runs = refl
@@ -30,7 +31,7 @@ Apart bit [] = Unit
 Apart bit (literal group ∷ runs) = Unit
 Apart bit (fill next count ∷ runs) = bit ≡ next → ⊥
 
-pub fill-apart : (bit : ℕ) (runs : List Run) → Apart bit runs → addFill bit runs ≡ fill bit 1 ∷ runs
+fill-apart : (bit : ℕ) (runs : List Run) → Apart bit runs → addFill bit runs ≡ fill bit 1 ∷ runs
 fill-apart bit [] a = refl
 fill-apart bit (literal group ∷ runs) a = refl
 fill-apart bit (fill next count ∷ runs) a = rw (ne-eqb bit next a) refl
@@ -75,7 +76,7 @@ group-apart bit group runs e =
 
 -- ---- the groups of the runs of some groups
 
-pub groups-add-fill : (bit : ℕ) (runs : List Run) → groupsIn (addFill bit runs) ≡ bit * allOnes ∷ groupsIn runs
+groups-add-fill : (bit : ℕ) (runs : List Run) → groupsIn (addFill bit runs) ≡ bit * allOnes ∷ groupsIn runs
 groups-add-fill bit runs = by-fill (λ l. groupsIn l ≡ bit * allOnes ∷ groupsIn runs) bit runs (λ a. refl) (λ count rest e. rw e refl)
 
 groups-add-group : (group : ℕ) (runs : List Run) → groupsIn (addGroup group runs) ≡ group ∷ groupsIn runs

@@ -5,7 +5,8 @@ use Prim.Native.Nat.{ℕ, zero, suc, _+_, _*_, _<_}
 use native.Mathlib.Omega.{arith}
 use lib.ListN.{replicate, replicate-append-replicate}
 use Rattle.groups.specs.Rows.{bitsOf, rowsOf}
-use Rattle.words.specs.Words.{allOnes, uniform}
+use Rattle.words.specs.Words.{allOnes}
+use Rattle.words.specs.Inner.{uniform}
 
 zero-rows : bitsOf 31 (0 * allOnes) ≡ replicate 31 0
 zero-rows = refl

@@ -1,12 +1,12 @@
 -- A canonical list that is written from the left, a step at a time, whatever its groups come from. Assumes nothing.
 use mathlib.Core.Path.{_≡_, refl, _∙_, ap, sym}
-use mathlib.Core.List.{List, [], _∷_, _++_, append-assoc, append-nil}
+use mathlib.Core.List.{List, [], _∷_, _++_, append-assoc}
 use Prim.Native.Nat.{ℕ, suc, zero, _+_, _<_, _≤_}
 use native.Mathlib.Omega.{arith}
 use lib.ListN.{length, take, drop, length-append, take-append-drop}
 use lib.Seq.{sets, length-sets, length-take-le}
 use Rattle.words.specs.Words.{encode}
-use Rattle.words.specs.Writer.{after, written, lastWords, Takes}
+use Rattle.words.specs.Inner.{after, written, lastWords, Takes}
 use Rattle.words.specs.declared.writer.Pending.{Pending}
 use Rattle.words.specs.declared.writer.Step.{Step}
 use Rattle.groups.proofs.Sets.{sets-front, sets-behind, drop-further}
@@ -33,7 +33,7 @@ begins total out = record { isBit = omega arith; within = omega arith; same = re
 
 module _ {total rest out₀ out : List ℕ} {at : ℕ} {pending : Pending} (w : Writing total rest out₀ out at pending) (room : length (encode total) ≤ length out₀)
   where
-    -- the next words are written, and another run is pending behind them
+    -- the next words are written, and another run is pending after them
     module _ (more words : List ℕ) (count : ℕ) (next : Pending) (long : length words ≡ count)
         (law : encode (after pending rest) ≡ words ++ encode (after next more)) where
       pub words-fit : at + count ≤ length out

@@ -1,5 +1,5 @@
 -- Document 01, "Words and groups": literal and fill words, and the canonical list of some rows.
-use mathlib.Core.Bool.{Bool, true, false, not, cond, _&&_}
+use mathlib.Core.Bool.{Bool, true, not, cond, _&&_}
 use mathlib.Core.List.{List, [], _∷_, _++_, map}
 use Prim.Native.Nat.{ℕ, suc, _+_, _*_, _/_, _%_}
 use lib.Dec.{ltb, eqb}
@@ -33,10 +33,6 @@ span (fill bit count) = count
 abbrev pub groupIn : Run → ℕ
 groupIn (literal group) = group
 groupIn (fill bit count) = bit * allOnes
-
--- `count` groups of one bit
-abbrev pub uniform : ℕ → ℕ → List ℕ
-uniform bit count = replicate count (bit * allOnes)
 
 -- the groups of some runs
 abbrev pub groupsIn : List Run → List ℕ

@@ -1,6 +1,7 @@
-// The word code of document 01, "Words and groups": groups in words, words in canonical lists, and the writer
-// of such lists.
+// The word code of document 01, "Words and groups": groups in words, words in canonical lists, the writer of
+// such lists, and how a finished list is given to a caller.
 //
-// Below it stands `groups`, for rows and their groups. It knows nothing of an index.
+// Below it stand `groups`, for rows and their groups, and `answers`. It knows nothing of an index.
+pub mod give;
 pub mod word;
 pub mod writer;

@@ -1,12 +1,12 @@
 // The writer of canonical lists. Groups come from the left; a run of uniform groups stays pending
 // until a group of another kind ends it. A step decides which words to write now; a store writes them.
 ghost use mathlib.Core.Path.{_≡_};
-ghost use mathlib.Core.List.{List, [], _∷_, _++_};
-ghost use Prim.Native.Nat.{ℕ, _+_, _*_, _<_, _≤_};
+ghost use mathlib.Core.List.{[], _∷_, _++_};
+ghost use Prim.Native.Nat.{_+_, _<_, _≤_};
 ghost use lib.ListN.{length, drop, replicate};
 ghost use lib.Seq.{sets};
-ghost use Rattle.words.specs.Words.{allOnes, uniform};
-ghost use Rattle.words.specs.Writer.{Alone, Takes, written, lastWords};
+ghost use Rattle.words.specs.Words.{allOnes};
+ghost use Rattle.words.specs.Inner.{uniform, Alone, Takes, written, lastWords};
 use crate::word::ALL_ONES;
 use crate::word::fill_word;
 
@@ -129,7 +129,7 @@ pub fn finish(out: &mut [u32], at: usize, pending: Pending) -> usize
     at + 1
 }
 
-// Writes a finished list over the front of an output; what is behind it stays.
+// Writes a finished list over the front of an output; what comes after it stays.
 pub fn copy(list: &[u32], out: &mut [u32])
     requires { ⌜ length (now list) ≤ length (now out) ⌝ }
     ensures { λ _. ⌜ now (out .exit) ≡ now (list .entry) ++ drop (length (now (list .entry))) (now (out .entry)) ⌝ }

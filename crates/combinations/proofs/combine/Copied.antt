@@ -1,4 +1,4 @@
--- Words that are copied before a turn of the loop over two lists: where the loop stands behind them. Assumes nothing.
+-- Words that are copied before a turn of the loop over two lists: where the loop stands after them. Assumes nothing.
 use mathlib.Core.Path.{_≡_, refl, ap}
 use mathlib.Core.List.{List, _++_}
 use Prim.Native.Nat.{ℕ, _+_, _≤_}
@@ -6,13 +6,12 @@ use native.Mathlib.Omega.{arith}
 use lib.ListN.{length, take, drop, length-drop}
 use lib.Seq.{sets, length-take-le}
 use Rattle.words.specs.Words.{decode, encode}
-use Rattle.words.specs.Writer.{after, lastWords}
+use Rattle.words.specs.Inner.{after, lastWords}
 use Rattle.words.specs.declared.writer.Pending.{Pending}
 use Rattle.words.proofs.Writing.{Writing, words-fit, words-on}
 use Rattle.lists.specs.Combine.{exclusive, combined}
-use Rattle.combinations.specs.Spans.{remaining, shorter, Opened}
-use Rattle.combinations.specs.Copying.{past, xorFrom, Copies}
-use Rattle.combinations.specs.declared.combine.Span.{Span}
+use Rattle.combinations.specs.Inner.{remaining, shorter, past, Opened, xorFrom, Copies}
+use Rattle.combinations.specs.declared.span.Span.{Span}
 use Rattle.combinations.specs.declared.copying.Copying.{Copying}
 use Rattle.combinations.proofs.combine.Spans.{side-on, Combining}
 

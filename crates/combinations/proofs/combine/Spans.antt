@@ -1,58 +1,22 @@
--- Two lists that are combined span by span: a word opened, a turn of the loop, and its end. Assumes nothing.
-use mathlib.Core.Path.{_≡_, refl, _∙_, ap, ap₂}
-use mathlib.Core.Bool.{Bool, true, false}
+-- Two lists that are combined span by span: a turn of the loop, and its end. Assumes nothing.
+use mathlib.Core.Path.{_≡_, _∙_, ap, ap₂}
 use mathlib.Core.List.{List, [], _++_}
-use Prim.Native.Nat.{ℕ, min, _+_, _-_, _<_, _≤_}
+use Prim.Native.Nat.{ℕ, min, _+_, _<_, _≤_}
 use native.Mathlib.Omega.{arith}
-use lib.Dec.{ltb}
-use lib.ListN.{length, drop, replicate, length-append, length-replicate}
+use lib.ListN.{length, drop, replicate, length-replicate}
 use lib.Seq.{sets}
-use borrow.Author.Tests.{ltb-true, ltb-false}
-use Rattle.words.specs.Words.{Run, Run.literal, Run.fill, span, groupIn, decode, encode}
-use Rattle.words.specs.Writer.{Alone, Takes, written, lastWords}
+use Rattle.words.specs.Words.{decode, encode}
+use Rattle.words.specs.Inner.{Alone, Takes, written, lastWords}
 use Rattle.words.specs.declared.writer.Pending.{Pending}
 use Rattle.words.specs.declared.writer.Step.{Step}
-use Rattle.words.proofs.Forms.{runAt, decode-from, decode-end}
-use Rattle.words.proofs.Round.{Narrow, read-narrow}
 use Rattle.words.proofs.Writing.{Writing, begins, step-fits, step-on, last-fits, ends}
-use Rattle.lists.specs.Combine.{Operation, onGroup, combined, Filled, Covers}
-use Rattle.combinations.specs.Spans.{remaining, shorter, Opened}
-use Rattle.combinations.specs.declared.combine.Span.{Span}
+use Rattle.lists.specs.Combine.{Operation, onGroup, combined}
+use Rattle.lists.specs.Inner.{Covers}
+use Rattle.combinations.specs.Inner.{remaining, shorter, Opened}
+use Rattle.combinations.specs.declared.span.Span.{Span}
 use Rattle.lists.proofs.Operations.{GivesBits, alone-onGroup}
 use Rattle.lists.proofs.Combining.{combined-none, combined-spans}
-use Rattle.lists.proofs.Covering.{word-small}
-
-pub length-remaining : (list : List ℕ) (at-hand : Span) → length (remaining list at-hand) ≡ at-hand .left + length (decode (drop (at-hand .next) list))
-length-remaining list at-hand = length-append (replicate (at-hand .left) (at-hand .group)) (decode (drop (at-hand .next) list)) ∙ rw length-replicate refl
-
--- ---- a word opened
-
-run-alone : (run : Run) → Narrow run → Alone (groupIn run) (span run)
-run-alone (literal group) narrow none all = omega arith
-run-alone (fill bit count) narrow none all = absurd (omega arith)
-
--- a span that is used up where groups are left has a word to open
-module _ (list : List ℕ) (used : Span) (none : used .left ≡ 0) (some : 0 < length (remaining list used)) where
-  pub opens-at : used .next < length list
-  opens-at = go (ltb (used .next) (length list)) refl
-    where
-      go : (t : Bool) → ltb (used .next) (length list) ≡ t → used .next < length list
-      go true e = ltb-true (used .next) (length list) e
-      go false e =
-          absurd (omega (arith, length-remaining list used, ap length (decode-end list (used .next) (ltb-false (used .next) (length list) e))))
-
-  pub opens : Filled list
-      → Opened list used (record { group = groupIn (runAt list (used .next)); left = span (runAt list (used .next)); next = used .next + 1 })
-  opens filled =
-      record {
-        same = rw none (decode-from list (used .next) opens-at);
-        some = filled (used .next) opens-at;
-        alone = run-alone (runAt list (used .next)) (read-narrow _);
-        small = word-small list (used .next);
-        near = omega (arith, opens-at);
-      }
-
--- ---- the loop
+use Rattle.combinations.proofs.span.Opening.{length-remaining}
 
 -- what is known of one of the lists when some groups are done
 pub record Side (list : List ℕ) (groups done : ℕ) (at-hand : Span) : Type 0 where
@@ -123,7 +87,7 @@ module _ {operation : Operation} {left right : List ℕ} {groups : ℕ} {out₀ 
         (omega (arith, turn .shortest))
         (omega (arith, turn .shortest)))
 
-    -- the groups of the turn, and those behind them
+    -- the groups of the turn, and those after them
     turn-groups : combined operation (remaining left from-left) (remaining right from-right)
         ≡ replicate count group ++ combined operation (remaining left (shorter x count)) (remaining right (shorter y count))
     turn-groups =

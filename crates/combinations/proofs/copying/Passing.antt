@@ -5,20 +5,20 @@ use mathlib.Core.List.{List, [], _∷_, _++_, map, map-append, append-assoc, app
 use Prim.Native.Nat.{ℕ, suc, zero, _+_, _*_, _-_, _<_, _≤_}
 use native.Mathlib.Omega.{arith}
 use native.Mathlib.Nat.{add-zero, sub-zero}
-use lib.Dec.{ltb}
 use lib.ListN.{length, getD, take, drop, replicate, length-append, length-drop, length-replicate, drop-of-length-le}
 use lib.Seq.{sets, sets-eq, take-add, drop-drop, getD-drop, length-take-le}
-use borrow.Author.Tests.{ltb-true, ltb-false, ne-eqb, eq-eqb}
+use borrow.Author.Tests.{ne-eqb, eq-eqb}
 use Rattle.words.specs.Words.{allOnes, runOf, span, groupIn, groupsIn, decode, encode, noFill, wellFormed}
-use Rattle.words.specs.Writer.{after, lastWords}
+use Rattle.words.specs.Inner.{after, lastWords}
 use Rattle.words.specs.declared.writer.Pending.{Pending}
 use Rattle.words.proofs.Copied.{upTo, apart-words, ends-pending, copied-words}
-use Rattle.words.proofs.Forms.{runAt, bitPast, groups-append, decode-split, length-split, length-from, decode-from, decode-end, form-split}
+use Rattle.words.proofs.Forms.{runAt, bitPast, groups-append, decode-split, length-split, length-from, decode-from, word-left, form-split}
 use Rattle.words.proofs.Runs.{joins}
 use Rattle.words.proofs.Round.{Words, decode-groups}
-use Rattle.lists.specs.Combine.{exclusive, onGroup, combined, Formed}
-use Rattle.combinations.specs.Copying.{goesOn, Reaches, notCopied, Copies}
-use Rattle.combinations.specs.declared.combine.Span.{Span}
+use Rattle.lists.specs.Combine.{exclusive, onGroup, combined}
+use Rattle.lists.specs.Inner.{Formed}
+use Rattle.combinations.specs.Inner.{goesOn, Reaches, notCopied, Copies}
+use Rattle.combinations.specs.declared.span.Span.{Span}
 use Rattle.combinations.specs.declared.copying.Reach.{Reach}
 use Rattle.lists.proofs.Combining.{combined-append, combined-spans}
 use Rattle.lists.proofs.Covering.{word-small, form-filled}
@@ -27,12 +27,8 @@ use Rattle.lists.proofs.Exclusive.{xor-zeros}
 -- ---- words passed
 
 -- words that do not cover all groups are not all words
-pub not-all : (list : List ℕ) (words : ℕ) → length (decode (take words list)) < length (decode list) → words < length list
-not-all list words h = go (ltb words (length list)) refl
-  where
-    go : (t : Bool) → ltb words (length list) ≡ t → words < length list
-    go true e = ltb-true words (length list) e
-    go false e = absurd (omega (arith, length-split list words, ap length (decode-end list words (ltb-false words (length list) e))))
+not-all : (list : List ℕ) (words : ℕ) → length (decode (take words list)) < length (decode list) → words < length list
+not-all list words h = word-left list words (omega (arith, length-split list words))
 
 -- the next word ends within the list
 pub next-few : (list : List ℕ) (zeros : ℕ) (reach : Reach) → Reaches list zeros reach
@@ -64,7 +60,7 @@ xor-zero group small = ap (λ (l : List ℕ). getD l 0 0) (xor-zeros 1 (group �
     below zero = small
     below (suc i) = omega arith
 
--- a run that does not go on has another group behind it
+-- a run that does not go on has another group after it
 ends-differs : (pending : Pending) (group : ℕ) → goesOn pending group ≡ false → 0 < pending .count → group ≡ pending .bit * allOnes → ⊥
 unfolding goesOn
 ends-differs pending group e some same =
@@ -88,7 +84,7 @@ module _ (list : List ℕ) (zeros : ℕ) (reach : Reach) (r : Reaches list zeros
       (replicate (zeros - reach .groups) 0 ++ others) (long ∙ sym (length-replicate (reach .groups) 0))
       ∙ ap (λ (l : List ℕ). l ++ rest) (xor-zeros (reach .groups) (decode (take (reach .words) list)) (decode-groups (take (reach .words) list)) long)))
 
-  -- the group behind them
+  -- the group after them
   abbrev tail : List ℕ
   tail =
       let run = runAt list (reach .words) in
@@ -192,9 +188,6 @@ module _ (list out : List ℕ) (from words at : ℕ) (inside : from + words ≤ 
 
   lent-long : length lentPart ≡ words
   lent-long = length-take-le (at + words - at) (drop at out) (omega (arith, length-drop at out)) ∙ omega arith
-
-  pub part-fits : length copiedPart ≤ length lentPart
-  part-fits = omega (arith, part-long, lent-long)
 
   pub part-copied : (made : List ℕ) → made ≡ copiedPart ++ drop (length copiedPart) lentPart
       → take at out ++ (made ++ drop (at + words - at) (drop at out)) ≡ sets out at (take words (drop from list))

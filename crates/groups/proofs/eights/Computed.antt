@@ -11,7 +11,7 @@ use lib.ListN.{length, getD, take, drop, length-drop}
 use lib.Seq.{getD-take, getD-drop, length-take-le}
 use borrow.Author.Tests.{eqb-true}
 use Rattle.groups.specs.Rows.{areBits, groupOf, bitsOf}
-use Rattle.groups.specs.Bytes.{fourBytes, bytesOf}
+use Rattle.groups.specs.Inner.{fourBytes, bytesOf}
 use Rattle.groups.proofs.Bits.{first-bit, other-bits, areBits-take, areBits-drop}
 use Rattle.groups.proofs.Group.{areBits-bitsOf, groupOf-bitsOf, groupOf-take}
 
@@ -35,7 +35,7 @@ passes (suc k) test e (suc (suc row) ∷ rows) bits l = absurd (omega (arith, fi
 -- ---- gathering
 
 -- what the code makes of eight bytes, given as twice four
-abbrev pub gathered : ℕ → ℕ → ℕ
+abbrev gathered : ℕ → ℕ → ℕ
 gathered first last = (first * 16 + last) * 0x08040201 / 2 ^ 24 % 256
 
 gathersRight : List ℕ → Bool
@@ -69,7 +69,7 @@ module _ (rows : List ℕ) (at : ℕ) (bits : areBits rows ≡ true) (fits : at 
 -- ---- spreading
 
 -- what the code makes of eight bits
-abbrev pub spreadOf : ℕ → ℕ
+abbrev spreadOf : ℕ → ℕ
 spreadOf eight = bitAnd ((eight * 0x0040201008040201 + bitAnd eight 1 * 0x8000000000000000) / 2 ^ 7) 0x0101010101010101
 
 -- the bytes of a number, the lowest first, are the given rows

@@ -10,16 +10,16 @@ use Rattle.answers.specs.Outcome.{_when_, Outcome}
 use Rattle.answers.specs.declared.Answer.the-variants.{Done, Refused}
 use Rattle.answers.specs.declared.Refusal.{Refusal}
 use Rattle.answers.specs.declared.Refusal.the-variants.{Damaged}
-use Rattle.steps.specs.Entry.{Planned, enteredIndex}
-use Rattle.steps.specs.Memory.{Memory, memoryOf, isSound}
+use Rattle.memory.specs.Inner.{Planned, enteredIndex}
+use Rattle.memory.specs.Memory.{Memory, memoryOf, isSound}
 use Rattle.index.specs.Calls.{auditOutcome}
-use Rattle.steps.specs.declared.header.Header.{Header}
-use Rattle.steps.specs.declared.header.Fence.{Fence}
-use Rattle.steps.specs.declared.entry.Plan.{Plan}
-use Rattle.steps.specs.declared.entry.Entry.the-variants.{Ready, Stop}
-use Rattle.index.proofs.Entries.{ready-enters, stop-outcome}
-use Rattle.fences.proofs.Planning.{planned-lent}
-use Rattle.fences.proofs.Tests.{is-false, is-true}
+use Rattle.memory.specs.declared.header.Header.{Header}
+use Rattle.block_read.specs.declared.fence.Fence.{Fence}
+use Rattle.blocks.specs.declared.sizes.Sizes.{Sizes}
+use Rattle.memory.specs.declared.entry.Entry.the-variants.{Ready, Stop}
+use Rattle.memory.proofs.Deciding.{ready-enters, outcome-refuses, stop-refused}
+use Rattle.memory.proofs.Places.{planned-lent}
+use Rattle.fence_records.proofs.Tests.{is-false, is-true}
 
 module _ (words : List ℕ) (fences : List Fence) (header : Header) where
   abbrev memory : Memory
@@ -29,12 +29,12 @@ module _ (words : List ℕ) (fences : List Fence) (header : Header) where
       → paper (Refused refusal) ≡ auditOutcome header memory .answer
   unfolding auditOutcome
   audit-stops refusal stop =
-      sym (ap (λ (o : Outcome). o .answer) (stop-outcome header memory [] (Damaged when not (isSound header memory) ∷ []) refusal stop [] []))
+      sym (ap (λ (o : Outcome). o .answer) (stop-refused (length words) (length fences) header [] (outcome-refuses [] []) (Damaged when not (isSound header memory) ∷ []) refusal stop))
 
-  pub audit-planned : (plan : Plan) → Ready plan ≡ enteredIndex (length words) (length fences) header → Planned header plan (length words) (length fences)
-  audit-planned plan ready = ready-enters (length words) (length fences) header [] plan ready .planned
+  pub audit-planned : (sizes : Sizes) → Ready sizes ≡ enteredIndex (length words) (length fences) header → Planned header sizes (length words) (length fences)
+  audit-planned sizes ready = ready-enters (length words) (length fences) header [] sizes ready .planned
 
-  module _ {plan : Plan} (is : Planned header plan (length words) (length fences)) (fine : Bool) (told : fine ≡ isSound header memory) where
+  module _ {sizes : Sizes} (is : Planned header sizes (length words) (length fences)) (fine : Bool) (told : fine ≡ isSound header memory) where
     pub audit-damaged : T (not fine) → paper (Refused Damaged) ≡ auditOutcome header memory .answer
     unfolding auditOutcome
     audit-damaged fails = rw (is .holds, planned-lent is, sym told ∙ is-false fine fails) refl

@@ -12,19 +12,19 @@ use Rattle.answers.specs.declared.Answer.the-variants.{Refused}
 use Rattle.answers.specs.declared.Refusal.{Refusal}
 use Rattle.answers.specs.declared.Refusal.the-variants.{Damaged, OutSmall}
 use Rattle.groups.specs.Rows.{rowLimit}
-use Rattle.steps.specs.Entry.{Planned, enteredIndex}
-use Rattle.dumps.specs.Dumping.{valuesHold, markedValues, rowsGiven}
-use Rattle.steps.specs.Memory.{Memory, memoryOf, every}
-use Rattle.steps.specs.Reading.{rowOf, isDamaged}
+use Rattle.memory.specs.Inner.{Planned, enteredIndex}
+use Rattle.dump_spans.specs.Inner.{valuesHold, markedValues, rowsGiven}
+use Rattle.memory.specs.Memory.{Memory, memoryOf, every}
+use Rattle.memory.specs.Reading.{rowOf, isDamaged}
 use Rattle.index.specs.Calls.{bytesOf, dumpOutcome}
-use Rattle.steps.specs.declared.header.Header.{Header}
-use Rattle.steps.specs.declared.header.Fence.{Fence}
-use Rattle.steps.specs.declared.entry.Plan.{Plan}
-use Rattle.steps.specs.declared.entry.Entry.the-variants.{Ready, Stop}
+use Rattle.memory.specs.declared.header.Header.{Header}
+use Rattle.block_read.specs.declared.fence.Fence.{Fence}
+use Rattle.blocks.specs.declared.sizes.Sizes.{Sizes}
+use Rattle.memory.specs.declared.entry.Entry.the-variants.{Ready, Stop}
 use Rattle.index.proofs.DumpLaws.{dump-holds, dump-bytes}
-use Rattle.index.proofs.Entries.{ready-enters, stop-outcome}
-use Rattle.fences.proofs.Planning.{planned-lent, numbers}
-use Rattle.fences.proofs.Tests.{is-false, is-true}
+use Rattle.memory.proofs.Deciding.{ready-enters, outcome-refuses, stop-refused}
+use Rattle.memory.proofs.Places.{planned-lent, numbers}
+use Rattle.fence_records.proofs.Tests.{is-false, is-true}
 
 module _ (words : List ℕ) (fences : List Fence) (header : Header) (out : List ℕ) where
   abbrev memory : Memory
@@ -41,12 +41,13 @@ module _ (words : List ℕ) (fences : List Fence) (header : Header) (out : List 
       → Gives (dumpOutcome header memory out) (Refused refusal) out
   unfolding dumpOutcome
   dump-stops refusal stop =
-      rw (stop-outcome header memory [] behind refusal stop (bytesOf header memory (header .issued)) out) (record { answers = refl; leaves = refl })
+      rw (stop-refused (length words) (length fences) header [] (outcome-refuses (bytesOf header memory (header .issued)) out) behind refusal stop)
+      (record { answers = refl; leaves = refl })
 
-  pub dump-planned : (plan : Plan) → Ready plan ≡ enteredIndex (length words) (length fences) header → Planned header plan (length words) (length fences)
-  dump-planned plan ready = ready-enters (length words) (length fences) header [] plan ready .planned
+  pub dump-planned : (sizes : Sizes) → Ready sizes ≡ enteredIndex (length words) (length fences) header → Planned header sizes (length words) (length fences)
+  dump-planned sizes ready = ready-enters (length words) (length fences) header [] sizes ready .planned
 
-  module _ {plan : Plan} (is : Planned header plan (length words) (length fences)) (rows : List ℕ) (clear : rows ≡ replicate rowLimit 255) where
+  module _ {sizes : Sizes} (is : Planned header sizes (length words) (length fences)) (rows : List ℕ) (clear : rows ≡ replicate rowLimit 255) where
     enough : header .issued ≤ rowLimit
     enough = omega (arith, numbers is .fewIssued, numbers is .fewRows)
 

@@ -1,5 +1,5 @@
 -- The exits of Load: the answer, the header, all words and all fences are those that the checks, in their order, call for. Assumes nothing.
-use mathlib.Core.Path.{_≡_, refl, sym, ap, _∙_}
+use mathlib.Core.Path.{_≡_, refl, sym, ap, ap₂, _∙_}
 use mathlib.Core.Bool.{true, not, and-true, and-eq-true-iff}
 use mathlib.Core.List.{List, [], _∷_}
 use Prim.Native.Nat.{ℕ, _*_, _<_, _≤_, _^_}
@@ -11,18 +11,19 @@ use Rattle.answers.specs.Outcome.{Check, _when_}
 use Rattle.answers.specs.declared.Refusal.{Refusal}
 use Rattle.answers.specs.declared.Refusal.the-variants.{BadHeader, Small, BadValue, Full}
 use Rattle.answers.proofs.Accepted.{Passes}
-use Rattle.blocks.specs.Shape.{blockSize, fenceCount}
-use Rattle.steps.specs.Entry.{planOf, Planned, headerFor, validColumn, enteredIndex, enteredLoad, noHeader}
-use Rattle.steps.specs.Memory.{Memory, memoryOf, limits, withinLimits, shapeOf, lent}
-use Rattle.steps.specs.Outcomes.{After, made, refusedBy, doneWith, Leaves}
+use Rattle.blocks.specs.Sizes.{blockSize, fenceCount}
+use Rattle.memory.specs.Entry.{headerFor, validColumn, noHeader}
+use Rattle.memory.specs.Inner.{Planned, enteredIndex, enteredLoad, refusedBy, doneWith}
+use Rattle.memory.specs.Memory.{Memory, memoryOf, limits, withinLimits, sizesOf, lent}
+use Rattle.memory.specs.Outcomes.{After, made, Leaves}
 use Rattle.index.specs.Calls.{loadHeader, loadChecks, loadedIn, loadAfter}
-use Rattle.steps.specs.declared.header.Header.{Header}
-use Rattle.steps.specs.declared.header.Fence.{Fence}
-use Rattle.steps.specs.declared.header.Changed.{Changed}
-use Rattle.steps.specs.declared.entry.Plan.{Plan}
-use Rattle.steps.specs.declared.entry.Entry.the-variants.{Ready, Stop}
-use Rattle.steps.proofs.Headers.{within}
-use Rattle.index.proofs.Refusing.{ready-passes, passes-read, stop-read, refusedChange, change-refuses}
+use Rattle.memory.specs.declared.header.Header.{Header}
+use Rattle.block_read.specs.declared.fence.Fence.{Fence}
+use Rattle.memory.specs.declared.header.Changed.{Changed}
+use Rattle.blocks.specs.declared.sizes.Sizes.{Sizes}
+use Rattle.memory.specs.declared.entry.Entry.the-variants.{Ready, Stop}
+use Rattle.memory.proofs.Headers.{within}
+use Rattle.memory.proofs.Deciding.{ready-passes, passes-read, stop-read, refusedChange, change-refuses}
 use Rattle.index.proofs.changing.Leaving.{refused-leaves, made-leaves}
 
 module _ (words : List ℕ) (fences : List Fence) (column : List ℕ) (rows values threshold spacing : ℕ) where
@@ -37,7 +38,7 @@ module _ (words : List ℕ) (fences : List Fence) (column : List ℕ) (rows valu
   full = loadHeader rows values threshold spacing column
 
   abbrev after : After
-  after = made 0 full (loadedIn full column values memory)
+  after = made 0 full (loadedIn (sizesOf full) column values memory)
 
   -- the checks as the code has them: those of an index with no row, then those of the column
   abbrev checks : List Check
@@ -60,7 +61,7 @@ module _ (words : List ℕ) (fences : List Fence) (column : List ℕ) (rows valu
       → loadAfter rows values threshold spacing column memory ≡ refusedChange noHeader memory refusal
   unfolding enteredIndex loadAfter
   entry refusal stop =
-      rw same-checks (stop-read (change-refuses noHeader memory after) [] (planOf empty) refusal checks stop)
+      rw same-checks (stop-read (change-refuses noHeader memory after) [] (sizesOf empty) refusal checks stop)
 
   pub load-stops : (refusal : Refusal) → Stop refusal ≡ enteredLoad (length words) (length fences) rows values threshold spacing column
       → (header : Header) → header ≡ noHeader → (changed : Changed) → changed ≡ refusedBy header refusal
@@ -68,12 +69,11 @@ module _ (words : List ℕ) (fences : List Fence) (column : List ℕ) (rows valu
   load-stops refusal stop header none changed gives =
       refused-leaves noHeader words fences refusal (loadAfter rows values threshold spacing column memory) (entry refusal stop)
       changed (gives ∙ ap (λ (h : Header). refusedBy h refusal) none)
-      words refl fences refl
 
-  module _ (plan : Plan) (ready : Ready plan ≡ enteredLoad (length words) (length fences) rows values threshold spacing column) where
-    told : (plan ≡ planOf empty) × Passes checks
+  module _ (sizes : Sizes) (ready : Ready sizes ≡ enteredLoad (length words) (length fences) rows values threshold spacing column) where
+    told : (sizes ≡ sizesOf empty) × Passes checks
     unfolding enteredIndex
-    told = ready-passes (planOf empty) plan checks ready
+    told = ready-passes (sizesOf empty) sizes checks ready
 
     pub few-rows : length column ≤ rows
     few-rows = ltb-false rows (length column) (told .1 .1 .1 .1 .0)
@@ -88,11 +88,11 @@ module _ (words : List ℕ) (fences : List Fence) (column : List ℕ) (rows valu
     unfolding withinLimits
     full-holds = rw (sym no-rows ∙ empty-holds, le-leb (length column) rows few-rows) refl
 
-    pub load-planned : Planned full plan (length words) (length fences)
+    pub load-planned : Planned full sizes (length words) (length fences)
     unfolding lent
     load-planned =
-        let blocks = values * blockSize (shapeOf empty) in
-        let records = values * fenceCount (shapeOf empty) in
+        let blocks = values * blockSize (sizesOf empty) in
+        let records = values * fenceCount (sizesOf empty) in
         let lends = not-false (lent empty (length words) (length fences)) (told .1 .1 .0) in
         let both = and-eq-true-iff (leb blocks (length words)) (leb records (length fences)) .0 lends in
         record {
@@ -102,19 +102,18 @@ module _ (words : List ℕ) (fences : List Fence) (column : List ℕ) (rows valu
           fences-lent = leb-true records (length fences) (both .1);
         }
 
-    pub load-asks : (header : Header) → header ≡ full → Planned header plan (length words) (length fences) × (length column ≤ header .rows)
+    pub load-asks : (header : Header) → header ≡ full → Planned header sizes (length words) (length fences) × (length column ≤ header .rows)
     load-asks header is = rw is (load-planned, few-rows)
 
     pub load-done : (header : Header) → header ≡ full
         → (left : List ℕ) (remade : List Fence)
-        → (left ≡ loadedIn header column (header .values) memory .words) × (remade ≡ loadedIn header column (header .values) memory .fences)
+        → (left ≡ loadedIn (sizesOf header) column (header .values) memory .words) × (remade ≡ loadedIn (sizesOf header) column (header .values) memory .fences)
         → (changed : Changed) → changed ≡ doneWith header 0
         → Leaves (loadAfter rows values threshold spacing column memory) changed left remade
     unfolding loadAfter
     load-done header is left remade loads changed gives =
-        made-leaves full 0 (loadedIn full column values memory .words) (loadedIn full column values memory .fences)
+        made-leaves full 0 (loadedIn (sizesOf full) column values memory)
         (loadAfter rows values threshold spacing column memory)
         (rw same-checks (passes-read (change-refuses noHeader memory after) [] checks (told .1)))
         changed (gives ∙ ap (λ (h : Header). doneWith h 0) is)
-        left (rw is at (loads .0))
-        remade (rw is at (loads .1))
+        left remade (ap₂ memoryOf (rw is at (loads .0)) (rw is at (loads .1)))

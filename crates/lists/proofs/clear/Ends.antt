@@ -1,10 +1,12 @@
 -- A list seen from its end: words of zeros are passed, and the first other word has the last 1. Assumes nothing.
 use mathlib.Core.Path.{_≡_, refl, _∙_, ap, sym}
 use mathlib.Core.Bool.{Bool, true, false}
+use mathlib.Core.Logic.{by-cases}
 use mathlib.Core.List.{List, [], _++_}
 use Prim.Native.Nat.{ℕ, zero, suc, _+_, _*_, _-_, _/_, _%_, _^_, _<_, _≤_}
 use native.Mathlib.Nat.{mod-one, mod-eq-of-lt}
 use native.Mathlib.Numerals.{add-one}
+use native.Mathlib.Decide.{decLt}
 use native.Mathlib.Omega.{arith}
 use lib.Count.{under, trailingZeros}
 use lib.Dec.{leb, eqb, leb·zero, leb·suc-zero, leb·suc-suc}
@@ -17,9 +19,10 @@ use Rattle.words.specs.Words.{span, groupIn, decode}
 use Rattle.words.proofs.Forms.{runAt, decode-upto, length-upto}
 use Rattle.groups.proofs.Groups.{rowsOf-append}
 use Rattle.words.proofs.Uniform.{rowsOf-uniform}
+use Rattle.groups.proofs.Tests.{same-test}
 use Rattle.groups.proofs.Tail.{lastOf, last-repeated, clear-tail, clearFrom-rowAt, rowAt-clearFrom}
 use Rattle.groups.proofs.Zeros.{zeros-behind}
-use Rattle.lists.specs.Combine.{Filled, Covers}
+use Rattle.lists.specs.Inner.{Filled, Covers}
 use Rattle.lists.proofs.Covering.{word-small}
 
 -- ---- the machine's count of zeros below the lowest 1
@@ -50,11 +53,9 @@ clear-later row later groups h e = go (clearFrom row groups) refl
     go false p = p
 
 leb-sub : (m n k : ℕ) → leb (m - n) k ≡ leb m (n + k)
-leb-sub m n k = go (leb (m - n) k) refl
-  where
-    go : (t : Bool) → leb (m - n) k ≡ t → leb (m - n) k ≡ leb m (n + k)
-    go true e = e ∙ sym (le-leb m (n + k) (omega (arith, leb-true (m - n) k e)))
-    go false e = e ∙ sym (lt-leb m (n + k) (omega (arith, leb-false (m - n) k e)))
+leb-sub m n k =
+    same-test (leb (m - n) k) (leb m (n + k)) (λ e. le-leb m (n + k) (omega (arith, leb-true (m - n) k e)))
+    (λ e. le-leb (m - n) k (omega (arith, leb-true m (n + k) e)))
 
 module _ (row : ℕ) (groups : List ℕ) (some : lastOf groups ≡ 0 → ⊥) (small : lastOf groups < 0x80000000) where
   below : ℕ
@@ -75,15 +76,13 @@ module _ (row : ℕ) (groups : List ℕ) (some : lastOf groups ≡ 0 → ⊥) (s
   -- THEOREM: no row from the given one on is set exactly where the last 1 of the last group is before it
   clear-last : clearFrom row groups ≡ leb (31 * length groups) (row + trailingZeros 32 (lastOf groups))
   unfolding below
-  clear-last = go (leb (31 * length groups) (row + 31)) refl
-    where
-      go : (t : Bool) → leb (31 * length groups) (row + 31) ≡ t → clearFrom row groups ≡ leb (31 * length groups) (row + below)
-      go true e = clear-near row (leb-true (31 * length groups) (row + 31) e) ∙ leb-sub (31 * length groups) row below
-      go false e =
-          let far : row + 31 < 31 * length groups = leb-false (31 * length groups) (row + 31) e in
-          let last = 31 * length groups - 31 in
-          clear-later row last groups (omega arith) (clear-near last (omega arith) ∙ lt-leb (31 * length groups - last) below (omega (arith, below-few)))
-          ∙ sym (lt-leb (31 * length groups) (row + below) (omega (arith, below-few)))
+  clear-last =
+      by-cases (decLt (row + 31) (31 * length groups))
+      (λ far.
+      let last = 31 * length groups - 31 in
+      clear-later row last groups (omega arith) (clear-near last (omega arith) ∙ lt-leb (31 * length groups - last) below (omega (arith, below-few)))
+      ∙ sym (lt-leb (31 * length groups) (row + below) (omega (arith, below-few))))
+      (λ near. clear-near row (omega arith) ∙ leb-sub (31 * length groups) row below)
 
 -- ---- the loop over words from the end
 
@@ -97,44 +96,44 @@ clear-front row front count =
     rw (rowsOf-append front (replicate count 0), rowsOf-uniform 0 count (omega arith)) (zeros-behind (rowsOf front) row (31 * count))
 
 -- the words from place `at` on are all zero: the rows in front decide
-pub record Behind (list : List ℕ) (row end at : ℕ) : Type 0 where
+pub record ZerosFrom (list : List ℕ) (row end at : ℕ) : Type 0 where
   pub within : at ≤ length list
   pub covered : end ≡ length (decode (take at list))
   pub few : end ≤ length (decode list)
   pub same : clearFrom row (decode list) ≡ clearFrom row (decode (take at list))
 
-pub begins : (list : List ℕ) (groups row : ℕ) → Covers groups list → Behind list row groups (length list)
+pub begins : (list : List ℕ) (groups row : ℕ) → Covers groups list → ZerosFrom list row groups (length list)
 begins list groups row covers =
     let all : take (length list) list ≡ list = take-all (length list) list (omega arith) in
     record { within = omega arith; covered = rw all (sym (covers .long)); few = omega (arith, covers .long); same = rw all refl }
 
-pub ends : (list : List ℕ) (row end at : ℕ) → Behind list row end at → at ≡ 0 → true ≡ clearFrom row (decode list)
-ends list row end at behind none = sym (behind .same ∙ rw none (clear-none row))
+pub ends : (list : List ℕ) (row end at : ℕ) → ZerosFrom list row end at → at ≡ 0 → true ≡ clearFrom row (decode list)
+ends list row end at zeros none = sym (zeros .same ∙ rw none (clear-none row))
 
-module _ (list : List ℕ) (row end at : ℕ) (behind : Behind list row end at) (some : 0 < at) where
+module _ (list : List ℕ) (row end at : ℕ) (zeros : ZerosFrom list row end at) (some : 0 < at) where
   one-more : at - 1 + 1 ≡ at
   one-more = omega arith
 
   here : at - 1 < length list
-  here = omega (arith, behind .within)
+  here = omega (arith, zeros .within)
 
   last-word : decode (take at list) ≡ decode (take (at - 1) list) ++ replicate (span (runAt list (at - 1))) (groupIn (runAt list (at - 1)))
   last-word = rw one-more at (decode-upto list (at - 1) here)
 
   last-span : end ≡ length (decode (take (at - 1) list)) + span (runAt list (at - 1))
-  last-span = behind .covered ∙ rw one-more at (length-upto list (at - 1) here)
+  last-span = zeros .covered ∙ rw one-more at (length-upto list (at - 1) here)
 
   pub last-fits : span (runAt list (at - 1)) ≤ end
   last-fits = omega (arith, last-span)
 
   -- a word of zeros is passed
-  pub passes : groupIn (runAt list (at - 1)) ≡ 0 → Behind list row (end - span (runAt list (at - 1))) (at - 1)
+  pub passes : groupIn (runAt list (at - 1)) ≡ 0 → ZerosFrom list row (end - span (runAt list (at - 1))) (at - 1)
   passes none =
       record {
-        within = omega (arith, behind .within);
+        within = omega (arith, zeros .within);
         covered = omega (arith, last-span);
-        few = omega (arith, behind .few);
-        same = behind .same ∙ rw (last-word, none) (clear-front row (decode (take (at - 1) list)) (span (runAt list (at - 1))));
+        few = omega (arith, zeros .few);
+        same = zeros .same ∙ rw (last-word, none) (clear-front row (decode (take (at - 1) list)) (span (runAt list (at - 1))));
       }
 
   -- any other word decides
@@ -145,5 +144,5 @@ module _ (list : List ℕ) (row end at : ℕ) (behind : Behind list row end at) 
       let group = groupIn (runAt list (at - 1)) in
       let last : lastOf (decode (take at list)) ≡ group
       = rw last-word (last-repeated front (span (runAt list (at - 1))) group (filled (at - 1) here)) in
-      sym (behind .same
-      ∙ rw (← last, behind .covered) (clear-last row (decode (take at list)) (λ e. set (sym last ∙ e)) (rw last (word-small list (at - 1)))))
+      sym (zeros .same
+      ∙ rw (← last, zeros .covered) (clear-last row (decode (take at list)) (λ e. set (sym last ∙ e)) (rw last (word-small list (at - 1)))))

@@ -1,5 +1,5 @@
 -- The loop of Pack: the groups of the rows passed are written, those of the others are still to come. Assumes nothing.
-use mathlib.Core.Path.{_≡_, refl, _∙_, ap, sym}
+use mathlib.Core.Path.{_≡_, refl, _∙_}
 use mathlib.Core.List.{List, [], _∷_, _++_}
 use Prim.Native.Nat.{ℕ, min, _+_, _-_, _<_, _≤_}
 use native.Mathlib.Omega.{arith}
@@ -7,7 +7,7 @@ use lib.ListN.{length, take, drop}
 use lib.Seq.{sets}
 use Rattle.groups.specs.Rows.{groupOf, groupsOf}
 use Rattle.words.specs.Words.{packed}
-use Rattle.words.specs.Writer.{written, lastWords, Takes}
+use Rattle.words.specs.Inner.{written, lastWords, Takes}
 use Rattle.words.specs.declared.writer.Pending.{Pending}
 use Rattle.words.specs.declared.writer.Step.{Step}
 use Rattle.words.proofs.Writing.{Writing, begins, step-fits, step-on, last-fits, ends}

@@ -11,12 +11,12 @@ use Rattle.answers.specs.declared.Answer.the-variants.{Done, Refused}
 use Rattle.answers.specs.declared.Refusal.the-variants.{Full, OutSmall, BadList}
 use Rattle.groups.specs.Rows.{rowLimit}
 use Rattle.words.specs.Words.{unpacked, decode}
-use Rattle.checks.specs.Check.{checkOf}
+use Rattle.list_check.specs.Inner.{checkOf}
 use Rattle.packs.specs.Calls.{unpackOutcome}
-use Rattle.checks.specs.declared.check.Checked.the-variants.{Whole, Bad}
+use Rattle.list_check.specs.declared.check.Checked.the-variants.{Whole, Bad}
 use Rattle.words.proofs.Canonical.{canonical-parts, unpacked-length}
 use Rattle.packs.proofs.Calls.{CanUnpack, unpack-done}
-use Rattle.checks.proofs.check.Verdict.{bad-canonical, whole-canonical}
+use Rattle.list_check.proofs.check.Verdict.{bad-canonical, whole-canonical}
 
 module _ (list : List ℕ) (rows : ℕ) (out : List ℕ) where
   pub full : rowLimit < rows → Gives (unpackOutcome list rows out) (Refused Full) out

@@ -1,14 +1,13 @@
 -- The invariant of the loop that writes the rows of a list, one word after the other, and its turn. Assumes nothing.
 use mathlib.Core.Path.{_≡_, refl, _∙_, ap, sym}
-use mathlib.Core.Bool.{Bool, true, false}
+use mathlib.Core.Logic.{by-cases}
 use mathlib.Core.List.{List, [], _∷_, _++_, append-nil, append-assoc}
 use Prim.Native.Nat.{ℕ, zero, suc, min, _+_, _*_, _-_, _<_, _≤_}
+use native.Mathlib.Decide.{decLt}
 use native.Mathlib.Omega.{arith}
 use native.Mathlib.Nat.{zero-sub, sub-zero, suc-sub-suc}
-use lib.Dec.{leb}
 use lib.ListN.{length, getD, take, length-append}
 use lib.Seq.{take-all, take-nil, take-at, length-take-le}
-use borrow.Author.Tests.{leb-true, leb-false}
 use borrow.Rule.Slice.PartMut.{midOf, postOf, putMid, mid-len, same-len-mid}
 use Rattle.groups.specs.Rows.{rowsOf}
 use Rattle.words.specs.Words.{span, decode}
@@ -23,14 +22,13 @@ take-append (suc n) (x ∷ xs) ys = rw (suc-sub-suc, take-append n xs ys) refl
 
 -- no more is taken than there is
 take-most : (n most : ℕ) (xs : List ℕ) → n ≡ min most (length xs) → take n xs ≡ take most xs
-take-most n most xs e = go (leb most (length xs)) refl
-  where
-    go : (t : Bool) → leb most (length xs) ≡ t → take n xs ≡ take most xs
-    go true q = let all : n ≡ most = omega (arith, leb-true most (length xs) q) in rw all refl
-    go false q = let less : length xs < most = leb-false most (length xs) q in take-all n xs (omega arith) ∙ sym (take-all most xs (omega arith))
+take-most n most xs e =
+    by-cases (decLt most (length xs))
+    (λ more. let all : n ≡ most = omega arith in rw all refl)
+    (λ less. take-all n xs (omega arith) ∙ sym (take-all most xs (omega arith)))
 
 -- the rows of the word at place i
-abbrev pub rowsAt : List ℕ → ℕ → List ℕ
+abbrev rowsAt : List ℕ → ℕ → List ℕ
 rowsAt list i = rowsOf (decode (getD list i 0 ∷ []))
 
 -- a list is read up to place i, and its rows stand in the output up to place `at`

@@ -6,11 +6,11 @@ use native.Mathlib.Omega.{arith}
 use lib.ListN.{length, drop}
 use lib.Seq.{sets}
 use Rattle.answers.specs.Numbers.{paper}
-use Rattle.steps.specs.Memory.{memoryOf}
-use Rattle.steps.specs.Outcomes.{Leaves}
+use Rattle.memory.specs.Memory.{memoryOf}
+use Rattle.memory.specs.Outcomes.{Leaves}
 use Rattle.index.specs.Calls.{loadAfter}
-use Rattle.steps.specs.declared.header.Fence.{Fence}
-use Rattle.steps.specs.declared.header.Changed.{Changed}
+use Rattle.block_read.specs.declared.fence.Fence.{Fence}
+use Rattle.memory.specs.declared.header.Changed.{Changed}
 use Rattle.print.specs.Frame.{lineIn}
 use Rattle.print.specs.Text.{refusalLine}
 use Rattle.print.specs.Printed.{cleared, unlessRefused, valueLines, columnLines, frameLines, printed}

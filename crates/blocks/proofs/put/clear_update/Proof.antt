@@ -26,7 +26,7 @@ returns c =
     let a = start .args in
     let word = c .before .before .before .before .before .fill-word in
     let put = c .before .before .put-update in
-    cleared (a .shape) (start .pre .0) (a .words .now) (a .at) (word .result) 511 (put .last .0) (word .ensures) (omega arith) (put .ensures)
+    cleared (a .sizes) (start .pre .0) (a .block .now) (word .result) 511 (put .last .0) (word .ensures) (omega arith) (put .ensures)
 
 pub clear-update-spec : {M : Type 1} → statement M
 clear-update-spec =

@@ -1,46 +1,32 @@
--- `put_update` stores the length and copies the room: together a write of the block with another U.
+-- `put_update` stores the length and copies the room: together the block with another U.
 use mathlib.Core.Path.{refl, _∙_, sym}
 use Prim.Native.Nat.{_+_}
 use native.Mathlib.Omega.{arith}
 use lib.ListN.{take, length-set}
 use lib.Seq.{length-take-le}
+use Rattle.blocks.specs.Sizes.{valueRoom}
+use Rattle.blocks.proofs.put.Stores.{copy-fits, stored, stored-long, update-writes}
 use borrow.Author.Needs.{needs}
-use Rattle.blocks.proofs.put.Stores.{copy-fits, stored, stored-long, update-stored}
 use Rattle.blocks.proofs.put.put_update.Statement.{statement}
 use Rattle.blocks.proofs.put.put_update.Tie as tie
-
-update-room-requires : tie.Need-update-room-requires
-update-room-requires c κs = search needs
 
 add-from : tie.Need-add-from
 add-from c = search needs
 
-cast-from : tie.Need-cast-from
-cast-from c = search needs
+add-end : tie.Need-add-end
+add-end c = search needs
 
-add-from-2 : tie.Need-add-from-2
-add-from-2 c = search needs
+cast-block : tie.Need-cast-block
+cast-block c = search needs
 
-add-to : tie.Need-add-to
-add-to c = search needs
-
-cast-words : tie.Need-cast-words
-cast-words c = search needs
-
-add-words : tie.Need-add-words
-add-words c = search needs
-
-mul-words : tie.Need-mul-words
-mul-words c = search needs
-
-slice-write-words : tie.Need-slice-write-words
-slice-write-words c = search needs
+slice-write-block : tie.Need-slice-write-block
+slice-write-block c = search needs
 
 slice-aggregate-copy : tie.Need-slice-aggregate-copy
 slice-aggregate-copy c =
-    let start = c .before .before .before .before .before in
-    let size = c .before .before .update-room in
-    sym (length-take-le (size .result) (start .args .room .now) (omega (arith, size .ensures .0, start .pre .3)))
+    let start = c .before .before .before .before in
+    let a = start .args in
+    sym (length-take-le (a .sizes .«update_room») (a .room .now) (omega arith))
 
 mul-copy : tie.Need-mul-copy
 mul-copy c = search needs
@@ -53,49 +39,40 @@ part-copy-start c = search needs
 
 part-copy-end : tie.Need-part-copy-end
 part-copy-end c =
-    let start = c .before .before .before .before .before in
-    omega (arith, length-set (start .args .words .now) (start .args .at + 1) (start .args .count))
+    let start = c .before .before .before .before in
+    omega (arith, length-set (start .args .block .now) 1 (start .args .count))
 
 copy-requires : tie.Need-copy-requires
 copy-requires c κs =
-    let a = c .before .before .before .before .before .before .args in
-    let size = c .before .before .before .update-room in
-    copy-fits (a .words .now) (a .at + 1) (a .count) (a .at + 2 + a .shape .groups) (a .room .now) (size .result) (omega arith) (omega arith)
+    let start = c .before .before .before .before .before in
+    let a = start .args in
+    copy-fits (a .block .now) 1 (a .count) (2 + valueRoom (a .sizes)) (a .room .now) (a .sizes .«update_room») (omega arith) (omega arith)
 
 same-length : tie.Need-same-length
 same-length c =
-    let start = c .before .before .before .before .before .before .before .before .before in
+    let start = c .before .before .before .before .before .before .before .before in
     let a = start .args in
-    let size = c .before .before .before .before .before .before .update-room in
     let copy = c .before .before .copy in
-    stored-long (a .words .now) (a .at + 1) (a .count) (a .at + 2 + a .shape .groups) (a .room .now) (size .result) (omega arith) (omega arith)
-    (omega arith) (copy .last .1 .0) (copy .ensures)
+    stored-long (a .block .now) 1 (a .count) (2 + valueRoom (a .sizes)) (a .room .now) (a .sizes .«update_room») (omega arith) (omega arith) (omega arith) (copy .last .1 .0) (copy .ensures)
 
 returns : tie.Need-returns
 returns c =
-    let start = c .before .before .before .before .before .before .before .before .before in
+    let start = c .before .before .before .before .before .before .before .before in
     let a = start .args in
-    let size = c .before .before .before .before .before .before .update-room in
     let copy = c .before .before .copy in
-    stored (a .words .now) (a .at + 1) (a .count) (a .at + 2 + a .shape .groups) (a .room .now) (size .result) (omega arith) (omega arith)
-    (omega arith) (copy .last .1 .0) (copy .ensures)
-    ∙ update-stored (a .shape) (a .words .now) (a .at) (a .count) (take (size .result) (a .room .now)) (start .pre .1)
-    (length-take-le (size .result) (a .room .now) (omega arith) ∙ size .ensures .0)
-    ∙ rw (size .ensures .0) refl
+    stored (a .block .now) 1 (a .count) (2 + valueRoom (a .sizes)) (a .room .now) (a .sizes .«update_room») (omega arith) (omega arith) (omega arith) (copy .last .1 .0) (copy .ensures)
+    ∙ update-writes (a .sizes) (a .count) (take (a .sizes .«update_room») (a .room .now)) (a .block .now) (start .pre .1)
+    (length-take-le (a .sizes .«update_room») (a .room .now) (omega arith) ∙ start .pre .0 .updateRoomIs)
+    ∙ rw (start .pre .0 .updateRoomIs) refl
 
 pub put-update-spec : {M : Type 1} → statement M
 put-update-spec =
     tie.close
     (tie.spec
-    update-room-requires
     add-from
-    cast-from
-    add-from-2
-    add-to
-    cast-words
-    add-words
-    mul-words
-    slice-write-words
+    add-end
+    cast-block
+    slice-write-block
     slice-aggregate-copy
     mul-copy
     sub-copy

@@ -1,5 +1,5 @@
 -- `xor_into` writes the XOR of two lists. The loop's invariant is `Combining`: the first `done` groups of both lists are combined and, but for
--- what is pending, written. A turn copies words of the left list and takes a step behind them. The measure is how many groups are left.
+-- what is pending, written. A turn copies words of the left list and takes a step after them. The measure is how many groups are left.
 use mathlib.Core.Path.{ap}
 use Prim.Native.Nat.{_+_, _-_}
 use native.Mathlib.Nat.{add-assoc}
@@ -8,12 +8,12 @@ use lib.Bits.{bitXor}
 use lib.ListN.{length}
 use lib.Seq.{length-sets}
 use Rattle.lists.specs.Combine.{exclusive}
-use Rattle.combinations.specs.Spans.{shorter}
-use Rattle.combinations.specs.Copying.{past}
+use Rattle.combinations.specs.Inner.{shorter, past}
 use Rattle.lists.proofs.Operations.{exclusive-bits, xor-onGroup}
 use Rattle.combinations.proofs.combine.Copied.{ended-fits, copied-fits, copied-on, still-opened}
-use Rattle.combinations.proofs.combine.Spans.{length-remaining, Combining, combining-begins, end-fits, combining-ends}
+use Rattle.combinations.proofs.combine.Spans.{Combining, combining-begins, end-fits, combining-ends}
 use Rattle.combinations.proofs.combine.Spans.{Turn, turn-some, turn-near, turn-alone, turn-fits, turn-on}
+use Rattle.combinations.proofs.span.Opening.{length-remaining}
 use Rattle.combinations.proofs.combine.xor_into.Statement.{statement}
 use Rattle.combinations.proofs.combine.xor_into.Tie as tie
 
@@ -34,10 +34,10 @@ at-loop c = c .before .before .before
 abbrev planned : tie.After-copy-words Inv-loop μ-loop → tie.After-next-copy Inv-loop μ-loop
 planned c = c .before .before .before .before .before .before
 
-abbrev copied : tie.After-smaller Inv-loop μ-loop → tie.After-copy-words Inv-loop μ-loop
+abbrev copied : tie.After-common Inv-loop μ-loop → tie.After-copy-words Inv-loop μ-loop
 copied c = c .before .before .before .before .before .before
 
-abbrev sized : tie.After-struct-known3 Inv-loop μ-loop → tie.After-smaller Inv-loop μ-loop
+abbrev sized : tie.After-struct-known3 Inv-loop μ-loop → tie.After-common Inv-loop μ-loop
 sized c = c .before .before .before .before .before .before .before .before .before .before .before
 
 loop-holds : tie.Need-loop-holds Inv-loop μ-loop
@@ -87,7 +87,7 @@ moved-requires c κs =
     let copying = planned (c .before .before) .next-copy in
     omega (arith, copying .ensures .inside, start .good .0 .0)
 
--- the loop behind the words that the turn copies
+-- the loop after the words that the turn copies
 now : (c : tie.After-copy-words Inv-loop μ-loop)
     → let args = entry (at-loop (planned c)) .args in
     let loop = at-loop (planned c) .loop in
@@ -122,11 +122,11 @@ shortened-requires : tie.Need-shortened-requires Inv-loop μ-loop
 shortened-requires c κs =
     omega (arith, planned (c .before .before .before .before) .next-copy .ensures .within)
 
-smaller-requires : tie.Need-smaller-requires Inv-loop μ-loop
-smaller-requires c κs = tt
+common-requires : tie.Need-common-requires Inv-loop μ-loop
+common-requires c κs = tt
 
 -- what the turn takes is known once its length is
-turn : (c : tie.After-smaller Inv-loop μ-loop)
+turn : (c : tie.After-common Inv-loop μ-loop)
     → let args = entry (at-loop (planned (copied c))) .args in
     let loop = at-loop (planned (copied c)) .loop in
     let copying = planned (copied c) .next-copy .result in
@@ -134,7 +134,7 @@ turn : (c : tie.After-smaller Inv-loop μ-loop)
     let x = c .before .before .opened2 .result in
     let y = c .before .shortened .result in
     Turn exclusive (args .left .now) (args .right .now) (past (loop .from-left) (copying .words)) (shorter ahead (copying .groups)) x y
-    (bitXor (x .group) (y .group)) (c .smaller .result)
+    (bitXor (x .group) (y .group)) (c .common .result)
 turn c =
     let k = at-loop (planned (copied c)) .loop .inv in
     let opens = planned (copied c) .before .opened in
@@ -147,7 +147,7 @@ turn c =
       opens-left = rw (← moved .ensures) (x .ensures);
       opens-right = still;
       makes = xor-onGroup (x .result .group) (y .result .group) (x .ensures .small) (still .small);
-      shortest = c .smaller .ensures;
+      shortest = c .common .ensures;
     }
 
 next-step-requires : tie.Need-next-step-requires Inv-loop μ-loop
@@ -166,11 +166,11 @@ store-requires c κs =
 
 shortened-requires-2 : tie.Need-shortened-requires-2 Inv-loop μ-loop
 shortened-requires-2 c κs =
-    omega (arith, c .before .before .before .before .before .before .before .before .smaller .ensures)
+    omega (arith, c .before .before .before .before .before .before .before .before .common .ensures)
 
 shortened-requires-3 : tie.Need-shortened-requires-3 Inv-loop μ-loop
 shortened-requires-3 c κs =
-    omega (arith, c .before .before .before .before .before .before .before .before .before .smaller .ensures)
+    omega (arith, c .before .before .before .before .before .before .before .before .before .common .ensures)
 
 add-done : tie.Need-add-done Inv-loop μ-loop
 add-done c =
@@ -191,12 +191,12 @@ loop-again c =
     let n = now (copied (sized c)) in
     let t = turn (sized c) in
     let copying = planned (copied (sized c)) .next-copy in
-    let smaller = sized c .smaller in
+    let common = sized c .common in
     let step = c .before .before .before .before .before .before .before .before .next-step in
     let stored = c .before .before .before .before .before .before .store in
     let sx = c .before .before .shortened2 in
     let sy = c .before .shortened3 in
-    rw (stored .ensures .0, stored .ensures .1, sx .ensures, sy .ensures, ← add-assoc _ (copying .result .groups) (smaller .result))
+    rw (stored .ensures .0, stored .ensures .1, sx .ensures, sy .ensures, ← add-assoc _ (copying .result .groups) (common .result))
     (turn-on n t (step .result) (step .ensures))
 
 finish-requires-2 : tie.Need-finish-requires-2 Inv-loop μ-loop
@@ -229,7 +229,7 @@ xor-into-spec =
     moved-requires
     opened-requires-2
     shortened-requires
-    smaller-requires
+    common-requires
     next-step-requires
     store-requires
     shortened-requires-2

@@ -2,7 +2,7 @@
 use mathlib.Core.Path.{refl}
 use borrow.Author.Needs.{needs}
 use borrow.Author.Tests.{ne-eqb}
-use Rattle.combinations.specs.Copying.{goesOn}
+use Rattle.combinations.specs.Inner.{goesOn}
 use Rattle.combinations.proofs.copying.goes_on.Statement.{statement}
 use Rattle.combinations.proofs.copying.goes_on.Tie as tie
 

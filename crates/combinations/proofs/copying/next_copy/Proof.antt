@@ -1,4 +1,4 @@
--- `next_copy` copies nothing, or the words that `reach_of` passes behind a run that ends there.
+-- `next_copy` copies nothing, or the words that `reach_of` passes after a run that ends there.
 use mathlib.Core.Path.{_≡_, _∙_, sym}
 use mathlib.Core.List.{List}
 use Prim.Native.Nat.{ℕ, _-_, _<_}
@@ -7,8 +7,8 @@ use lib.ListN.{length, take, drop, length-drop}
 use lib.Seq.{take-all}
 use borrow.Author.Needs.{needs}
 use Rattle.words.proofs.Forms.{length-split}
-use Rattle.combinations.specs.Copying.{notCopied, Copies}
-use Rattle.combinations.proofs.combine.Spans.{length-remaining, opens-at}
+use Rattle.combinations.specs.Inner.{notCopied, Copies}
+use Rattle.combinations.proofs.span.Opening.{length-remaining, opens-at}
 use Rattle.combinations.proofs.copying.Passing.{copies-none, copies-some}
 use Rattle.combinations.proofs.copying.next_copy.Statement.{statement}
 use Rattle.combinations.proofs.copying.next_copy.Tie as tie
@@ -20,7 +20,7 @@ all-behind list place = take-all (length list - place) (drop place list) (omega 
 none : (c : tie.Start) → Copies (c .args .list .now) (c .args .from) (c .args .other) (c .args .pending) (notCopied (c .args .pending))
 none c = copies-none (c .args .list .now) (c .args .from) (c .args .other) (c .args .pending) (c .pre .4) (c .pre .2) (c .pre .5)
 
--- a span that is used up has a word behind it
+-- a span that is used up has a word after it
 a-word : (c : tie.Else2) → let a = c .before .before .before .before .before .args in a .from .next < length (a .list .now)
 a-word c =
     let start = c .before .before .before .before .before in

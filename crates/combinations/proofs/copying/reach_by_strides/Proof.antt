@@ -6,7 +6,7 @@ use native.Mathlib.Omega.{arith}
 use lib.ListN.{length, take}
 use Rattle.words.specs.Words.{decode}
 use Rattle.words.proofs.Forms.{length-split}
-use Rattle.combinations.specs.Copying.{Reaches}
+use Rattle.combinations.specs.Inner.{Reaches}
 use Rattle.combinations.proofs.copying.Passing.{covered-upto, reaches}
 use Rattle.combinations.proofs.copying.reach_by_strides.Statement.{statement}
 use Rattle.combinations.proofs.copying.reach_by_strides.Tie as tie

@@ -6,7 +6,7 @@ use native.Mathlib.Omega.{arith}
 use lib.ListN.{length}
 use Rattle.words.specs.Words.{span}
 use Rattle.words.proofs.Forms.{runAt, length-upto}
-use Rattle.combinations.specs.Copying.{Reaches}
+use Rattle.combinations.specs.Inner.{Reaches}
 use Rattle.combinations.proofs.copying.Passing.{next-few, reaches}
 use Rattle.combinations.proofs.copying.reach_of.Statement.{statement}
 use Rattle.combinations.proofs.copying.reach_of.Tie as tie

@@ -38,22 +38,22 @@ use denote.Triple.Spec.{Meets, tripleOf}
 use denote.Triple.Statement.{Triple}
 use denote.Triple.Table.{entered, cited}
 use denote.Triple.Walked.{Stays, stay-slice, stay-dropped, walkOf, Walks, ends-at, walked, goes-slice, goes-dropped, walk-meets}
-use Rattle.steps.specs.declared.header.Fence.{Fence}
-use Rattle.steps.proofs.header.Fence as Fence-T
-use Rattle.steps.proofs.header.Header as Header-T
-use Rattle.steps.proofs.header.Header.Laws as Header-L
-use Rattle.desk.specs.declared.lent.Lent.{Lent}
-use Rattle.desk.proofs.lent.Lent as Lent-T
-use Rattle.desk.proofs.lent.Lent.Laws as Lent-L
+use Rattle.block_read.specs.declared.fence.Fence.{Fence}
+use Rattle.block_read.proofs.fence.Fence as Fence-T
+use Rattle.memory.proofs.header.Header as Header-T
+use Rattle.memory.proofs.header.Header.Laws as Header-L
+use Rattle.desk_orders.specs.declared.lent.Lent.{Lent}
+use Rattle.desk_orders.proofs.lent.Lent as Lent-T
+use Rattle.desk_orders.proofs.lent.Lent.Laws as Lent-L
 use Rattle.lines.specs.declared.orders.Order.{Order}
 use Rattle.lines.proofs.orders.Order as Order-T
 use Rattle.lines.proofs.orders.Order.Laws as Order-L
 use Rattle.desk.proofs.lending.Question as Question-T
 use Rattle.desk.proofs.lending.Question.Laws as Question-L
 use Rattle.desk.specs.declared.lending.Question.the-variants.{Queries, Values, Dumps, Audits}
-use Rattle.walks.proofs.Lend.{ref}
-use Rattle.walks.proofs.Flow.{matches, frees-all, empties}
-use Rattle.walks.proofs.Calls.{contractOf, calls-plain, calls-view-view-last}
+use Rattle.mir_walks.proofs.Lend.{ref}
+use Rattle.mir_walks.proofs.Flow.{matches, frees-all, empties}
+use Rattle.mir_walks.proofs.Calls.{contractOf, calls-plain, calls-view-view-last}
 use Rattle.desk.proofs.lending.question_of as question-of-F
 use Rattle.desk.proofs.lending.question_of.Symbol as question-of-def
 use Rattle.desk.proofs.lending.question_of.Symbol.{name as #desk·question-of}

@@ -38,17 +38,17 @@ use denote.Triple.Table.{entered, cited}
 use denote.Triple.Walked.{Stays, stay-dropped, walkOf, Walks, ends-at, walked, goes-dropped, walk-meets}
 use Rattle.answers.specs.Numbers.{paper}
 use Rattle.index.specs.Calls.{auditOutcome}
-use Rattle.steps.specs.Memory.{memoryOf}
+use Rattle.memory.specs.Memory.{memoryOf}
 use Rattle.answers.proofs.Answer as Answer-T
 use Rattle.answers.proofs.Answer.Laws as Answer-L
-use Rattle.steps.specs.declared.header.Fence.{Fence}
-use Rattle.steps.proofs.header.Fence as Fence-T
-use Rattle.steps.specs.declared.header.Header.{Header}
-use Rattle.steps.proofs.header.Header as Header-T
-use Rattle.steps.proofs.header.Header.Laws as Header-L
-use Rattle.walks.proofs.Lend.{ref}
-use Rattle.walks.proofs.Flow.{told-enum, frees-all, empties}
-use Rattle.walks.proofs.Calls.{contractOf, calls-plain, calls-shr-shr}
+use Rattle.block_read.specs.declared.fence.Fence.{Fence}
+use Rattle.block_read.proofs.fence.Fence as Fence-T
+use Rattle.memory.specs.declared.header.Header.{Header}
+use Rattle.memory.proofs.header.Header as Header-T
+use Rattle.memory.proofs.header.Header.Laws as Header-L
+use Rattle.mir_walks.proofs.Lend.{ref}
+use Rattle.mir_walks.proofs.Flow.{told-enum, frees-all, empties}
+use Rattle.mir_walks.proofs.Calls.{contractOf, calls-plain, calls-shr-shr}
 use Rattle.index.proofs.auditing.audit as audit-F
 use Rattle.index.proofs.auditing.audit.Symbol as audit-def
 use Rattle.index.proofs.auditing.audit.Symbol.{name as #index·audit}

@@ -39,24 +39,24 @@ use denote.Triple.Spec.{Meets, tripleOf}
 use denote.Triple.Statement.{Triple}
 use denote.Triple.Table.{entered, cited}
 use denote.Triple.Walked.{says, Stays, stay-dropped, walkOf, Walks, ends-at, walked, goes-dropped, walk-meets}
-use Rattle.desk.proofs.Parts.{within}
+use Rattle.desk_orders.proofs.Parts.{within}
 use Rattle.answers.specs.Outcome.{Gives}
-use Rattle.steps.specs.Memory.{memoryOf}
+use Rattle.memory.specs.Memory.{memoryOf}
 use Rattle.index.specs.Calls.{queryOutcome}
 use Rattle.answers.proofs.Answer as Answer-T
 use Rattle.answers.proofs.Answer.Laws as Answer-L
-use Rattle.steps.specs.declared.header.Fence.{Fence}
-use Rattle.steps.proofs.header.Fence as Fence-T
-use Rattle.steps.proofs.header.Header as Header-T
-use Rattle.steps.proofs.header.Header.Laws as Header-L
-use Rattle.desk.specs.declared.lent.Lent.{Lent}
-use Rattle.desk.proofs.lent.Lent as Lent-T
-use Rattle.desk.proofs.lent.Lent.Laws as Lent-L
-use Rattle.walks.proofs.Lend.{ref}
-use Rattle.walks.proofs.Flow.{told-enum, frees-all, empties, big-lit}
-use Rattle.walks.proofs.Local.{repeats, lend-array, back-array}
-use Rattle.walks.proofs.Front.{front, refronted, front-length}
-use Rattle.walks.proofs.Calls.{contractOf, calls-plain, calls-shr-shr-front, calls-view}
+use Rattle.block_read.specs.declared.fence.Fence.{Fence}
+use Rattle.block_read.proofs.fence.Fence as Fence-T
+use Rattle.memory.proofs.header.Header as Header-T
+use Rattle.memory.proofs.header.Header.Laws as Header-L
+use Rattle.desk_orders.specs.declared.lent.Lent.{Lent}
+use Rattle.desk_orders.proofs.lent.Lent as Lent-T
+use Rattle.desk_orders.proofs.lent.Lent.Laws as Lent-L
+use Rattle.mir_walks.proofs.Lend.{ref}
+use Rattle.mir_walks.proofs.Flow.{told-enum, frees-all, empties, big-lit}
+use Rattle.mir_walks.proofs.Local.{repeats, lend-array, back-array}
+use Rattle.mir_walks.proofs.Front.{front, refronted, front-length}
+use Rattle.mir_walks.proofs.Calls.{contractOf, calls-plain, calls-shr-shr-front, calls-view}
 use Rattle.groups.proofs.rows.smaller as groups-rows-smaller-F
 use Rattle.groups.proofs.rows.smaller.Symbol as groups-rows-smaller-def
 use Rattle.groups.proofs.rows.smaller.Symbol.{name as #groups·groups-rows-smaller}

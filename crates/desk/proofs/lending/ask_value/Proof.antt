@@ -35,19 +35,19 @@ use denote.Triple.Spec.{Meets, tripleOf}
 use denote.Triple.Statement.{Triple}
 use denote.Triple.Table.{entered, cited}
 use denote.Triple.Walked.{Stays, stay-dropped, walkOf, Walks, ends-at, walked, goes-dropped, walk-meets}
-use Rattle.steps.specs.Memory.{memoryOf}
-use Rattle.steps.specs.Reading.{valuePaper}
+use Rattle.memory.specs.Memory.{memoryOf}
+use Rattle.memory.specs.Reading.{valuePaper}
 use Rattle.index.specs.Calls.{valueOutcome}
-use Rattle.steps.specs.declared.header.Fence.{Fence}
-use Rattle.steps.proofs.header.Fence as Fence-T
-use Rattle.steps.specs.declared.header.Header.{Header}
-use Rattle.steps.proofs.header.Header as Header-T
-use Rattle.steps.proofs.header.Header.Laws as Header-L
-use Rattle.steps.proofs.row.Value as Value-T
-use Rattle.steps.proofs.row.Value.Laws as Value-L
-use Rattle.walks.proofs.Lend.{ref}
-use Rattle.walks.proofs.Flow.{told, frees-all, empties}
-use Rattle.walks.proofs.Calls.{contractOf, calls-plain, calls-shr-shr}
+use Rattle.block_read.specs.declared.fence.Fence.{Fence}
+use Rattle.block_read.proofs.fence.Fence as Fence-T
+use Rattle.memory.specs.declared.header.Header.{Header}
+use Rattle.memory.proofs.header.Header as Header-T
+use Rattle.memory.proofs.header.Header.Laws as Header-L
+use Rattle.memory.proofs.row.Value as Value-T
+use Rattle.memory.proofs.row.Value.Laws as Value-L
+use Rattle.mir_walks.proofs.Lend.{ref}
+use Rattle.mir_walks.proofs.Flow.{told, frees-all, empties}
+use Rattle.mir_walks.proofs.Calls.{contractOf, calls-plain, calls-shr-shr}
 use Rattle.index.proofs.answering.value as value-F
 use Rattle.index.proofs.answering.value.Symbol as value-def
 use Rattle.index.proofs.answering.value.Symbol.{name as #index·value}

@@ -36,20 +36,20 @@ use denote.Triple.Spec.{Meets, tripleOf}
 use denote.Triple.Statement.{Triple}
 use denote.Triple.Table.{entered, cited}
 use denote.Triple.Walked.{Stays, stay-slice, stay-dropped, walkOf, Walks, ends-at, walked, goes-slice, goes-dropped, walk-meets}
-use Rattle.steps.specs.Memory.{memoryOf}
-use Rattle.steps.specs.Outcomes.{Leaves}
+use Rattle.memory.specs.Memory.{memoryOf}
+use Rattle.memory.specs.Outcomes.{Leaves}
 use Rattle.index.specs.Calls.{loadAfter}
-use Rattle.steps.specs.declared.header.Changed.{Changed}
-use Rattle.steps.proofs.header.Changed as Changed-T
-use Rattle.steps.proofs.header.Changed.Laws as Changed-L
-use Rattle.steps.specs.declared.header.Fence.{Fence}
-use Rattle.steps.proofs.header.Fence as Fence-T
+use Rattle.memory.specs.declared.header.Changed.{Changed}
+use Rattle.memory.proofs.header.Changed as Changed-T
+use Rattle.memory.proofs.header.Changed.Laws as Changed-L
+use Rattle.block_read.specs.declared.fence.Fence.{Fence}
+use Rattle.block_read.proofs.fence.Fence as Fence-T
 use Rattle.lines.specs.declared.orders.Order.{Order}
 use Rattle.lines.proofs.orders.Order as Order-T
 use Rattle.lines.proofs.orders.Order.Laws as Order-L
-use Rattle.walks.proofs.Lend.{ref}
-use Rattle.walks.proofs.Flow.{told, frees-all, empties}
-use Rattle.walks.proofs.Calls.{contractOf, calls-mut-mut-view}
+use Rattle.mir_walks.proofs.Lend.{ref}
+use Rattle.mir_walks.proofs.Flow.{told, frees-all, empties}
+use Rattle.mir_walks.proofs.Calls.{contractOf, calls-mut-mut-view}
 use Rattle.index.proofs.loading.load as load-F
 use Rattle.index.proofs.loading.load.Symbol as load-def
 use Rattle.index.proofs.loading.load.Symbol.{name as #index·load}

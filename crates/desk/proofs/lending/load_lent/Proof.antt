@@ -36,21 +36,21 @@ use denote.Triple.Spec.{Meets, tripleOf}
 use denote.Triple.Statement.{Triple}
 use denote.Triple.Table.{entered, cited}
 use denote.Triple.Walked.{says, Stays, stay-slice, stay-dropped, walkOf, Walks, ends-at, walked, goes-slice, goes-dropped, walk-meets}
-use Rattle.desk.proofs.Parts.{within}
-use Rattle.steps.proofs.header.Changed as Changed-T
-use Rattle.steps.proofs.header.Changed.Laws as Changed-L
-use Rattle.steps.specs.declared.header.Fence.{Fence}
-use Rattle.steps.proofs.header.Fence as Fence-T
-use Rattle.desk.specs.declared.lent.Lent.{Lent}
-use Rattle.desk.proofs.lent.Lent as Lent-T
-use Rattle.desk.proofs.lent.Lent.Laws as Lent-L
+use Rattle.desk_orders.proofs.Parts.{within}
+use Rattle.memory.proofs.header.Changed as Changed-T
+use Rattle.memory.proofs.header.Changed.Laws as Changed-L
+use Rattle.block_read.specs.declared.fence.Fence.{Fence}
+use Rattle.block_read.proofs.fence.Fence as Fence-T
+use Rattle.desk_orders.specs.declared.lent.Lent.{Lent}
+use Rattle.desk_orders.proofs.lent.Lent as Lent-T
+use Rattle.desk_orders.proofs.lent.Lent.Laws as Lent-L
 use Rattle.lines.specs.declared.orders.Order.{Order}
 use Rattle.lines.proofs.orders.Order as Order-T
 use Rattle.lines.proofs.orders.Order.Laws as Order-L
-use Rattle.walks.proofs.Lend.{ref}
-use Rattle.walks.proofs.Flow.{told, frees-all, empties}
-use Rattle.walks.proofs.Front.{refronted, front-length}
-use Rattle.walks.proofs.Calls.{contractOf, calls-front-front-front, calls-plain}
+use Rattle.mir_walks.proofs.Lend.{ref}
+use Rattle.mir_walks.proofs.Flow.{told, frees-all, empties}
+use Rattle.mir_walks.proofs.Front.{refronted, front-length}
+use Rattle.mir_walks.proofs.Calls.{contractOf, calls-front-front-front, calls-plain}
 use Rattle.groups.proofs.rows.smaller as groups-rows-smaller-F
 use Rattle.groups.proofs.rows.smaller.Symbol as groups-rows-smaller-def
 use Rattle.groups.proofs.rows.smaller.Symbol.{name as #groups·groups-rows-smaller}
@@ -63,10 +63,10 @@ use Rattle.desk.proofs.lending.say_changed as say-changed-F
 use Rattle.desk.proofs.lending.say_changed.Symbol as say-changed-def
 use Rattle.desk.proofs.lending.say_changed.Symbol.{name as #desk·say-changed}
 use Rattle.desk.proofs.lending.say_changed.Met as say-changed-thm
-use Rattle.desk.proofs.lent.after as after-F
-use Rattle.desk.proofs.lent.after.Symbol as after-def
-use Rattle.desk.proofs.lent.after.Symbol.{name as #desk·after}
-use Rattle.desk.proofs.lent.after.Met as after-thm
+use Rattle.desk_orders.proofs.lent.after as after-F
+use Rattle.desk_orders.proofs.lent.after.Symbol as after-def
+use Rattle.desk_orders.proofs.lent.after.Symbol.{name as #desk_orders·after}
+use Rattle.desk_orders.proofs.lent.after.Met as after-thm
 use Rattle.desk.proofs.lending.load_lent.Key.{name as #desk·load-lent}
 use Rattle.desk.proofs.lending.load_lent as load-lent-F
 use Rattle.desk.proofs.lending.load_lent.Statement as stated
@@ -107,7 +107,7 @@ module _ {M : Type 1} (𝓤 : URA M) (H : Heap 𝓤) (A : Atoms 𝓤) (W : Given
       suffices ! _ (ends-at 𝓤 H A load-lent-F.ended stayed (load-lent-F.clauses 𝓤 H A mem run) W bound-of u r (words′, (fences′, (column′, (tt, (tt, (tt, tt)))))) (n-words′, (n-fences′, (n-column′, (tt, (tt, (tt, tt))))))) $ empties ! $
       nothing ! $ move ! (5 ∷ 0 ∷ []) $ join ! $ move ! (3 ∷ 0 ∷ []) $ join ! $ move ! (1 ∷ 0 ∷ []) $ join ! $ frame ! $ nothing ! $ nothing ! $ fjoin ! $ nothing ! $ fjoin ! $ nothing ! $ fjoin ! $ move ! (3 ∷ 0 ∷ []) $ fjoin ! $ move ! (2 ∷ 0 ∷ []) $ fjoin ! $ move ! (1 ∷ 0 ∷ []) $ fjoin ! $ frame ! $ owned ! Lent-T.the-row (Is Lent-T.the-row) (SL.makes Lent-T.the-type Lent-L.the-plain 𝓤 H A) r _ is $ done !
 
-  module _ (𝓣 : Tables 𝓤 H) (fm : FmC 𝓤 H (W .laws) (𝓣 .C)) (known-groups-rows-smaller : Triple 𝓤 (𝓣 .C #groups·groups-rows-smaller) (contractOf 𝓤 H A groups-rows-smaller-F.ended (groups-rows-smaller-F.clauses 𝓤 H A mem run))) (known-load-column : Triple 𝓤 (𝓣 .C #desk·load-column) (contractOf 𝓤 H A load-column-F.ended (load-column-F.clauses 𝓤 H A mem run))) (known-say-changed : Triple 𝓤 (𝓣 .C #desk·say-changed) (contractOf 𝓤 H A say-changed-F.ended (say-changed-F.clauses 𝓤 H A mem run))) (known-after : Triple 𝓤 (𝓣 .C #desk·after) (contractOf 𝓤 H A after-F.ended (after-F.clauses 𝓤 H A mem run))) where
+  module _ (𝓣 : Tables 𝓤 H) (fm : FmC 𝓤 H (W .laws) (𝓣 .C)) (known-groups-rows-smaller : Triple 𝓤 (𝓣 .C #groups·groups-rows-smaller) (contractOf 𝓤 H A groups-rows-smaller-F.ended (groups-rows-smaller-F.clauses 𝓤 H A mem run))) (known-load-column : Triple 𝓤 (𝓣 .C #desk·load-column) (contractOf 𝓤 H A load-column-F.ended (load-column-F.clauses 𝓤 H A mem run))) (known-say-changed : Triple 𝓤 (𝓣 .C #desk·say-changed) (contractOf 𝓤 H A say-changed-F.ended (say-changed-F.clauses 𝓤 H A mem run))) (known-after : Triple 𝓤 (𝓣 .C #desk_orders·after) (contractOf 𝓤 H A after-F.ended (after-F.clauses 𝓤 H A mem run))) where
     walk : Room u32 (length words) → Room Fence-T.the-row (length fences) → Room u8 (length column) → Is Lent-T.the-row lent (SL.vals Lent-T.the-type Lent-L.the-laws lent) → Is Order-T.the-row order (SL.vals Order-T.the-type Order-L.the-laws order) → count < 2 ^ 64 → ent 𝓤 (onEntry 𝓤 H A load-lent-F.signature (κ₀, (κ₁, (κ₂, tt))) (q₀, (q₁, (q₂, tt))) args-of vals-of) (WpFn 𝓤 H (𝓣 .C) (𝓣 .Λ) code.function (sliceVal (b₀, o₀) (length words) ∷ sliceVal (b₁, o₁) (length fences) ∷ sliceVal (b₂, o₂) (length column) ∷ SL.val Lent-T.the-type Lent-L.the-laws lent ∷ SL.val Order-T.the-type Order-L.the-laws order ∷ vint w64 count ∷ []) Post)
     walk room-words room-fences room-column is-lent is-order fit-count =
         qed W ((‵ (flft κ₀ q₀) ⊛ (‵ (flft κ₁ q₁) ⊛ (‵ (flft κ₂ q₂) ⊛ ‵ ftrue))) ∷ ‵ (owns (MutSlice (named 0) κ₀ u32 ∷ MutSlice (named 1) κ₁ Fence-T.the-row ∷ MutSlice (named 2) κ₂ u8 ∷ Lent-T.the-row ∷ Order-T.the-row ∷ usize ∷ []) args-of vals-of) ∷ []) ∵ enter ! (𝓣 .C) (𝓣 .Λ) code.function (sliceVal (b₀, o₀) (length words) ∷ sliceVal (b₁, o₁) (length fences) ∷ sliceVal (b₂, o₂) (length column) ∷ SL.val Lent-T.the-type Lent-L.the-laws lent ∷ SL.val Order-T.the-type Order-L.the-laws order ∷ vint w64 count ∷ []) _ $
@@ -154,7 +154,7 @@ module _ {M : Type 1} (𝓤 : URA M) (H : Heap 𝓤) (A : Atoms 𝓤) (W : Given
         (λ r5. Unit {0}) (λ κs r5 ws. factI 𝓤 (Unit {0}) (emp 𝓤) tt) (λ κs. (and-then ! (load ! (from ! (stop !)) (look ! 33 refl)) (and-then ! (load ! (from ! (stop !)) (look ! 23 refl)) (no-more !))))
         (λ u5 r5 e5 is5.
         land ! (from ! (stop !)) (init ! 6 refl (nothing-lawful 𝓤 H A W .typed r5 _ is5 .0)) $
-        -- after
+        -- desk_orders::lent::after
         calls-plain ! fm Lent-T.the-row (plain (λ _. Lent-T.the-row) ∷ plain (λ _. Changed-T.the-row) ∷ []) (yes, (yes, tt)) (after-F.clauses 𝓤 H A mem run) known-after
         (λ κs. (lent, (r4, tt))) (λ κs. (SL.val Lent-T.the-type Lent-L.the-laws lent ∷ [], (SL.val Changed-T.the-type Changed-L.the-laws r4 ∷ [], tt))) (λ κs. owns-make 𝓤 H A (Lent-T.the-row ∷ Changed-T.the-row ∷ []) (Ises (Lent-T.the-row ∷ Changed-T.the-row ∷ [])) (SL.makes Lent-T.the-type Lent-L.the-plain 𝓤 H A, (SL.makes Changed-T.the-type Changed-L.the-plain 𝓤 H A, tt)) (lent, (r4, tt)) (SL.val Lent-T.the-type Lent-L.the-laws lent ∷ [], (SL.val Changed-T.the-type Changed-L.the-laws r4 ∷ [], tt)) (is-lent, ((told Changed-T.the-type Changed-L.the-laws r4 _ is4), tt))) (λ κs. tt) (λ κs. id⊢ 𝓤 _)
         (λ r6. Unit {0}) (λ κs r6 ws. factI 𝓤 (Unit {0}) (emp 𝓤) tt) (λ κs. (and-then ! (load ! (from ! (stop !)) (look ! 35 refl)) (and-then ! (load ! (from ! (stop !)) (look ! 23 refl)) (no-more !))))
@@ -165,12 +165,12 @@ module _ {M : Type 1} (𝓤 : URA M) (H : Heap 𝓤) (A : Atoms 𝓤) (W : Given
         by ! (exits (SL.val Lent-T.the-type Lent-L.the-laws r6) r6 (refronted r1 words words4) (refronted r2 fences fences4) (refronted r3 column column4) (front-length r1 words (length words) refl (front-1 words lent r1 e1) words4 n-words4) (front-length r2 fences (length fences) refl (front-2 fences lent r2 e2) fences4 n-fences4) (front-length r3 column (length column) refl (front-3 column count r3 e3) column4 n-column4) (told Lent-T.the-type Lent-L.the-laws r6 _ is6)))))))))))))))))))))))))))
 
 module _ {M : Type 1} (𝓤 : URA M) (H : Heap 𝓤) (A : Atoms 𝓤) (W : Given 𝓤 H A) (mem : Memory → SProp 𝓤) (run : Routine → Fun 𝓤) where
-  load-lent-walks : (𝓣 : Tables 𝓤 H) → Triple 𝓤 (𝓣 .C #groups·groups-rows-smaller) (contractOf 𝓤 H A groups-rows-smaller-F.ended (groups-rows-smaller-F.clauses 𝓤 H A mem run)) → Triple 𝓤 (𝓣 .C #desk·load-column) (contractOf 𝓤 H A load-column-F.ended (load-column-F.clauses 𝓤 H A mem run)) → Triple 𝓤 (𝓣 .C #desk·say-changed) (contractOf 𝓤 H A say-changed-F.ended (say-changed-F.clauses 𝓤 H A mem run)) → Triple 𝓤 (𝓣 .C #desk·after) (contractOf 𝓤 H A after-F.ended (after-F.clauses 𝓤 H A mem run)) → Walks 𝓤 H A load-lent-F.ended stayed (WpFn 𝓤 H (𝓣 .C) (𝓣 .Λ) code.function) (load-lent-F.clauses 𝓤 H A mem run)
+  load-lent-walks : (𝓣 : Tables 𝓤 H) → Triple 𝓤 (𝓣 .C #groups·groups-rows-smaller) (contractOf 𝓤 H A groups-rows-smaller-F.ended (groups-rows-smaller-F.clauses 𝓤 H A mem run)) → Triple 𝓤 (𝓣 .C #desk·load-column) (contractOf 𝓤 H A load-column-F.ended (load-column-F.clauses 𝓤 H A mem run)) → Triple 𝓤 (𝓣 .C #desk·say-changed) (contractOf 𝓤 H A say-changed-F.ended (say-changed-F.clauses 𝓤 H A mem run)) → Triple 𝓤 (𝓣 .C #desk_orders·after) (contractOf 𝓤 H A after-F.ended (after-F.clauses 𝓤 H A mem run)) → Walks 𝓤 H A load-lent-F.ended stayed (WpFn 𝓤 H (𝓣 .C) (𝓣 .Λ) code.function) (load-lent-F.clauses 𝓤 H A mem run)
   load-lent-walks 𝓣 known-groups-rows-smaller known-load-column known-say-changed known-after =
       walked 𝓤 H A load-lent-F.ended stayed (load-lent-F.clauses 𝓤 H A mem run) (WpFn 𝓤 H (𝓣 .C) (𝓣 .Λ) code.function) (λ κs. (slice-vals, (slice-vals, (slice-vals, (SL.vals Lent-T.the-type Lent-L.the-laws, (SL.vals Order-T.the-type Order-L.the-laws, (uint-vals w64, tt))))))) (λ κs. (mut-slice-tells (named 0) (κs .0) u32, (mut-slice-tells (named 1) (κs .1 .0) Fence-T.the-row, (mut-slice-tells (named 2) (κs .1 .1 .0) u8, (SL.tells Lent-T.the-type Lent-L.the-laws, (SL.tells Order-T.the-type Order-L.the-laws, (uint-tells w64, tt)))))))
       (λ κs qs bounds a g are. via 𝓤 _ (fst∗ 𝓤 _ (emp 𝓤)) (walk 𝓤 H A W mem run (κs .0) (κs .1 .0) (κs .1 .1 .0) (qs .0) (qs .1 .0) (qs .1 .1 .0) (a .0 .ptr .0) (a .0 .ptr .1) (a .0 .name) (a .0 .now) (a .1 .0 .ptr .0) (a .1 .0 .ptr .1) (a .1 .0 .name) (a .1 .0 .now) (a .1 .1 .0 .ptr .0) (a .1 .1 .0 .ptr .1) (a .1 .1 .0 .name) (a .1 .1 .0 .now) (a .1 .1 .1 .0) (a .1 .1 .1 .1 .0) (a .1 .1 .1 .1 .1 .0) 𝓣 (fmOf 𝓤 H (W .laws) 𝓣) known-groups-rows-smaller known-load-column known-say-changed known-after (are .0 .0 .1) (are .1 .0 .0 .1) (are .1 .1 .0 .0 .1) (are .1 .1 .1 .0) (are .1 .1 .1 .1 .0) (are .1 .1 .1 .1 .1 .0 .1)))
 
-load-lent-meets : {M : Type 1} (𝓤 : URA M) (H : Heap 𝓤) (A : Atoms 𝓤) (W : Given 𝓤 H A) (mem : Memory → SProp 𝓤) (run : Routine → Fun 𝓤) (𝓣 : Tables 𝓤 H) → Triple 𝓤 (𝓣 .C #groups·groups-rows-smaller) (contractOf 𝓤 H A groups-rows-smaller-F.ended (groups-rows-smaller-F.clauses 𝓤 H A mem run)) → Triple 𝓤 (𝓣 .C #desk·load-column) (contractOf 𝓤 H A load-column-F.ended (load-column-F.clauses 𝓤 H A mem run)) → Triple 𝓤 (𝓣 .C #desk·say-changed) (contractOf 𝓤 H A say-changed-F.ended (say-changed-F.clauses 𝓤 H A mem run)) → Triple 𝓤 (𝓣 .C #desk·after) (contractOf 𝓤 H A after-F.ended (after-F.clauses 𝓤 H A mem run)) → Meets 𝓤 H A load-lent-F.signature (WpFn 𝓤 H (𝓣 .C) (𝓣 .Λ) code.function) (load-lent-F.spec 𝓤 H A mem run)
+load-lent-meets : {M : Type 1} (𝓤 : URA M) (H : Heap 𝓤) (A : Atoms 𝓤) (W : Given 𝓤 H A) (mem : Memory → SProp 𝓤) (run : Routine → Fun 𝓤) (𝓣 : Tables 𝓤 H) → Triple 𝓤 (𝓣 .C #groups·groups-rows-smaller) (contractOf 𝓤 H A groups-rows-smaller-F.ended (groups-rows-smaller-F.clauses 𝓤 H A mem run)) → Triple 𝓤 (𝓣 .C #desk·load-column) (contractOf 𝓤 H A load-column-F.ended (load-column-F.clauses 𝓤 H A mem run)) → Triple 𝓤 (𝓣 .C #desk·say-changed) (contractOf 𝓤 H A say-changed-F.ended (say-changed-F.clauses 𝓤 H A mem run)) → Triple 𝓤 (𝓣 .C #desk_orders·after) (contractOf 𝓤 H A after-F.ended (after-F.clauses 𝓤 H A mem run)) → Meets 𝓤 H A load-lent-F.signature (WpFn 𝓤 H (𝓣 .C) (𝓣 .Λ) code.function) (load-lent-F.spec 𝓤 H A mem run)
 load-lent-meets 𝓤 H A W mem run 𝓣 known-groups-rows-smaller known-load-column known-say-changed known-after =
     walk-meets 𝓤 H A load-lent-F.ended stayed W (goes-slice 𝓤 H A W 3 0 tt (plain (λ _. u32)), (goes-slice 𝓤 H A W 3 1 tt (plain (λ _. Fence-T.the-row)), (goes-slice 𝓤 H A W 3 2 tt (plain (λ _. u8)), (goes-dropped 𝓤 H A W 3 (plain (λ _. Lent-T.the-row)) yes (λ κs x f. refl), (goes-dropped 𝓤 H A W 3 (plain (λ _. Order-T.the-row)) yes (λ κs x f. refl), (goes-dropped 𝓤 H A W 3 (plain (λ _. usize)) yes (λ κs x f. refl), tt))))))
     (load-lent-F.clauses 𝓤 H A mem run) (WpFn 𝓤 H (𝓣 .C) (𝓣 .Λ) code.function) (WpFn-mono 𝓤 H (W .laws) 𝓣 code.function) (load-lent-walks 𝓤 H A W mem run 𝓣 known-groups-rows-smaller known-load-column known-say-changed known-after)
@@ -184,4 +184,4 @@ load-lent-spec 𝓤 H 𝓜 𝓖 𝓡 =
     (cited 𝓤 H (tripleOf 𝓤 H (𝓖 .A) groups-rows-smaller-F.signature (groups-rows-smaller-F.spec 𝓤 H (𝓖 .A) (𝓜 .mem) (𝓡 .run))) 𝓜 𝓡 code.env #groups·groups-rows-smaller groups-rows-smaller-def.routine code.calls-groups·rows·smaller (groups-rows-smaller-thm.met 𝓤 H 𝓜 𝓖 𝓡))
     (cited 𝓤 H (tripleOf 𝓤 H (𝓖 .A) load-column-F.signature (load-column-F.spec 𝓤 H (𝓖 .A) (𝓜 .mem) (𝓡 .run))) 𝓜 𝓡 code.env #desk·load-column load-column-def.routine code.calls-desk·lending·load-column (load-column-thm.met 𝓤 H 𝓜 𝓖 𝓡))
     (cited 𝓤 H (tripleOf 𝓤 H (𝓖 .A) say-changed-F.signature (say-changed-F.spec 𝓤 H (𝓖 .A) (𝓜 .mem) (𝓡 .run))) 𝓜 𝓡 code.env #desk·say-changed say-changed-def.routine code.calls-desk·lending·say-changed (say-changed-thm.met 𝓤 H 𝓜 𝓖 𝓡))
-    (cited 𝓤 H (tripleOf 𝓤 H (𝓖 .A) after-F.signature (after-F.spec 𝓤 H (𝓖 .A) (𝓜 .mem) (𝓡 .run))) 𝓜 𝓡 code.env #desk·after after-def.routine code.calls-desk·lent·after (after-thm.met 𝓤 H 𝓜 𝓖 𝓡)))
+    (cited 𝓤 H (tripleOf 𝓤 H (𝓖 .A) after-F.signature (after-F.spec 𝓤 H (𝓖 .A) (𝓜 .mem) (𝓡 .run))) 𝓜 𝓡 code.env #desk_orders·after after-def.routine code.calls-desk-orders·lent·after (after-thm.met 𝓤 H 𝓜 𝓖 𝓡)))

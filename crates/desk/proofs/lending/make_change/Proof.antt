@@ -38,26 +38,26 @@ use denote.Triple.Spec.{Meets, tripleOf}
 use denote.Triple.Statement.{Triple}
 use denote.Triple.Table.{entered, cited}
 use denote.Triple.Walked.{Stays, stay-slice, stay-dropped, walkOf, Walks, ends-at, walked, goes-slice, goes-dropped, walk-meets}
-use Rattle.steps.specs.Memory.{memoryOf}
-use Rattle.steps.specs.Outcomes.{Leaves}
+use Rattle.memory.specs.Memory.{memoryOf}
+use Rattle.memory.specs.Outcomes.{Leaves}
 use Rattle.index.specs.Calls.{mergeAfter, insertAfter, deleteAfter, updateAfter}
 use Rattle.desk.proofs.lending.Change as Change-T
 use Rattle.desk.proofs.lending.Change.Laws as Change-L
 use Rattle.desk.specs.declared.lending.Change.the-variants.{Inserts, Updates, Deletes, Merges}
-use Rattle.steps.specs.declared.header.Changed.{Changed}
-use Rattle.steps.proofs.header.Changed as Changed-T
-use Rattle.steps.proofs.header.Changed.Laws as Changed-L
-use Rattle.steps.specs.declared.header.Fence.{Fence}
-use Rattle.steps.proofs.header.Fence as Fence-T
-use Rattle.steps.specs.declared.header.Header.{Header}
-use Rattle.steps.proofs.header.Header as Header-T
-use Rattle.steps.proofs.header.Header.Laws as Header-L
+use Rattle.memory.specs.declared.header.Changed.{Changed}
+use Rattle.memory.proofs.header.Changed as Changed-T
+use Rattle.memory.proofs.header.Changed.Laws as Changed-L
+use Rattle.block_read.specs.declared.fence.Fence.{Fence}
+use Rattle.block_read.proofs.fence.Fence as Fence-T
+use Rattle.memory.specs.declared.header.Header.{Header}
+use Rattle.memory.proofs.header.Header as Header-T
+use Rattle.memory.proofs.header.Header.Laws as Header-L
 use Rattle.lines.specs.declared.orders.Order.{Order}
 use Rattle.lines.proofs.orders.Order as Order-T
 use Rattle.lines.proofs.orders.Order.Laws as Order-L
-use Rattle.walks.proofs.Lend.{ref}
-use Rattle.walks.proofs.Flow.{told, matches, frees-all, empties}
-use Rattle.walks.proofs.Calls.{contractOf, calls-mut-mut-last, calls-plain}
+use Rattle.mir_walks.proofs.Lend.{ref}
+use Rattle.mir_walks.proofs.Flow.{told, matches, frees-all, empties}
+use Rattle.mir_walks.proofs.Calls.{contractOf, calls-mut-mut-last, calls-plain}
 use Rattle.desk.proofs.lending.change_of as change-of-F
 use Rattle.desk.proofs.lending.change_of.Symbol as change-of-def
 use Rattle.desk.proofs.lending.change_of.Symbol.{name as #desk·change-of}

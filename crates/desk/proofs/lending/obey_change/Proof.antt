@@ -36,23 +36,23 @@ use denote.Triple.Spec.{Meets, tripleOf}
 use denote.Triple.Statement.{Triple}
 use denote.Triple.Table.{entered, cited}
 use denote.Triple.Walked.{says, Stays, stay-slice, stay-dropped, walkOf, Walks, ends-at, walked, goes-slice, goes-dropped, walk-meets}
-use Rattle.desk.proofs.Parts.{within}
-use Rattle.steps.proofs.header.Changed as Changed-T
-use Rattle.steps.proofs.header.Changed.Laws as Changed-L
-use Rattle.steps.specs.declared.header.Fence.{Fence}
-use Rattle.steps.proofs.header.Fence as Fence-T
-use Rattle.steps.proofs.header.Header as Header-T
-use Rattle.steps.proofs.header.Header.Laws as Header-L
-use Rattle.desk.specs.declared.lent.Lent.{Lent}
-use Rattle.desk.proofs.lent.Lent as Lent-T
-use Rattle.desk.proofs.lent.Lent.Laws as Lent-L
+use Rattle.desk_orders.proofs.Parts.{within}
+use Rattle.memory.proofs.header.Changed as Changed-T
+use Rattle.memory.proofs.header.Changed.Laws as Changed-L
+use Rattle.block_read.specs.declared.fence.Fence.{Fence}
+use Rattle.block_read.proofs.fence.Fence as Fence-T
+use Rattle.memory.proofs.header.Header as Header-T
+use Rattle.memory.proofs.header.Header.Laws as Header-L
+use Rattle.desk_orders.specs.declared.lent.Lent.{Lent}
+use Rattle.desk_orders.proofs.lent.Lent as Lent-T
+use Rattle.desk_orders.proofs.lent.Lent.Laws as Lent-L
 use Rattle.lines.specs.declared.orders.Order.{Order}
 use Rattle.lines.proofs.orders.Order as Order-T
 use Rattle.lines.proofs.orders.Order.Laws as Order-L
-use Rattle.walks.proofs.Lend.{ref}
-use Rattle.walks.proofs.Flow.{told, frees-all, empties}
-use Rattle.walks.proofs.Front.{refronted, front-length}
-use Rattle.walks.proofs.Calls.{contractOf, calls-front-front, calls-plain}
+use Rattle.mir_walks.proofs.Lend.{ref}
+use Rattle.mir_walks.proofs.Flow.{told, frees-all, empties}
+use Rattle.mir_walks.proofs.Front.{refronted, front-length}
+use Rattle.mir_walks.proofs.Calls.{contractOf, calls-front-front, calls-plain}
 use Rattle.groups.proofs.rows.smaller as groups-rows-smaller-F
 use Rattle.groups.proofs.rows.smaller.Symbol as groups-rows-smaller-def
 use Rattle.groups.proofs.rows.smaller.Symbol.{name as #groups·groups-rows-smaller}
@@ -65,10 +65,10 @@ use Rattle.desk.proofs.lending.say_changed as say-changed-F
 use Rattle.desk.proofs.lending.say_changed.Symbol as say-changed-def
 use Rattle.desk.proofs.lending.say_changed.Symbol.{name as #desk·say-changed}
 use Rattle.desk.proofs.lending.say_changed.Met as say-changed-thm
-use Rattle.desk.proofs.lent.after as after-F
-use Rattle.desk.proofs.lent.after.Symbol as after-def
-use Rattle.desk.proofs.lent.after.Symbol.{name as #desk·after}
-use Rattle.desk.proofs.lent.after.Met as after-thm
+use Rattle.desk_orders.proofs.lent.after as after-F
+use Rattle.desk_orders.proofs.lent.after.Symbol as after-def
+use Rattle.desk_orders.proofs.lent.after.Symbol.{name as #desk_orders·after}
+use Rattle.desk_orders.proofs.lent.after.Met as after-thm
 use Rattle.desk.proofs.lending.obey_change.Key.{name as #desk·obey-change}
 use Rattle.desk.proofs.lending.obey_change as obey-change-F
 use Rattle.desk.proofs.lending.obey_change.Statement as stated
@@ -106,7 +106,7 @@ module _ {M : Type 1} (𝓤 : URA M) (H : Heap 𝓤) (A : Atoms 𝓤) (W : Given
       suffices ! _ (ends-at 𝓤 H A obey-change-F.ended stayed (obey-change-F.clauses 𝓤 H A mem run) W bound-of u r (words′, (fences′, (tt, (tt, tt)))) (n-words′, (n-fences′, (tt, (tt, tt))))) $ empties ! $
       nothing ! $ move ! (3 ∷ 0 ∷ []) $ join ! $ move ! (1 ∷ 0 ∷ []) $ join ! $ frame ! $ nothing ! $ nothing ! $ fjoin ! $ nothing ! $ fjoin ! $ move ! (2 ∷ 0 ∷ []) $ fjoin ! $ move ! (1 ∷ 0 ∷ []) $ fjoin ! $ frame ! $ owned ! Lent-T.the-row (Is Lent-T.the-row) (SL.makes Lent-T.the-type Lent-L.the-plain 𝓤 H A) r _ is $ done !
 
-  module _ (𝓣 : Tables 𝓤 H) (fm : FmC 𝓤 H (W .laws) (𝓣 .C)) (known-groups-rows-smaller : Triple 𝓤 (𝓣 .C #groups·groups-rows-smaller) (contractOf 𝓤 H A groups-rows-smaller-F.ended (groups-rows-smaller-F.clauses 𝓤 H A mem run))) (known-make-change : Triple 𝓤 (𝓣 .C #desk·make-change) (contractOf 𝓤 H A make-change-F.ended (make-change-F.clauses 𝓤 H A mem run))) (known-say-changed : Triple 𝓤 (𝓣 .C #desk·say-changed) (contractOf 𝓤 H A say-changed-F.ended (say-changed-F.clauses 𝓤 H A mem run))) (known-after : Triple 𝓤 (𝓣 .C #desk·after) (contractOf 𝓤 H A after-F.ended (after-F.clauses 𝓤 H A mem run))) where
+  module _ (𝓣 : Tables 𝓤 H) (fm : FmC 𝓤 H (W .laws) (𝓣 .C)) (known-groups-rows-smaller : Triple 𝓤 (𝓣 .C #groups·groups-rows-smaller) (contractOf 𝓤 H A groups-rows-smaller-F.ended (groups-rows-smaller-F.clauses 𝓤 H A mem run))) (known-make-change : Triple 𝓤 (𝓣 .C #desk·make-change) (contractOf 𝓤 H A make-change-F.ended (make-change-F.clauses 𝓤 H A mem run))) (known-say-changed : Triple 𝓤 (𝓣 .C #desk·say-changed) (contractOf 𝓤 H A say-changed-F.ended (say-changed-F.clauses 𝓤 H A mem run))) (known-after : Triple 𝓤 (𝓣 .C #desk_orders·after) (contractOf 𝓤 H A after-F.ended (after-F.clauses 𝓤 H A mem run))) where
     walk : Room u32 (length words) → Room Fence-T.the-row (length fences) → Is Lent-T.the-row lent (SL.vals Lent-T.the-type Lent-L.the-laws lent) → Is Order-T.the-row order (SL.vals Order-T.the-type Order-L.the-laws order) → ent 𝓤 (onEntry 𝓤 H A obey-change-F.signature (κ₀, (κ₁, tt)) (q₀, (q₁, tt)) args-of vals-of) (WpFn 𝓤 H (𝓣 .C) (𝓣 .Λ) code.function (sliceVal (b₀, o₀) (length words) ∷ sliceVal (b₁, o₁) (length fences) ∷ SL.val Lent-T.the-type Lent-L.the-laws lent ∷ SL.val Order-T.the-type Order-L.the-laws order ∷ []) Post)
     walk room-words room-fences is-lent is-order =
         qed W ((‵ (flft κ₀ q₀) ⊛ (‵ (flft κ₁ q₁) ⊛ ‵ ftrue)) ∷ ‵ (owns (MutSlice (named 0) κ₀ u32 ∷ MutSlice (named 1) κ₁ Fence-T.the-row ∷ Lent-T.the-row ∷ Order-T.the-row ∷ []) args-of vals-of) ∷ []) ∵ enter ! (𝓣 .C) (𝓣 .Λ) code.function (sliceVal (b₀, o₀) (length words) ∷ sliceVal (b₁, o₁) (length fences) ∷ SL.val Lent-T.the-type Lent-L.the-laws lent ∷ SL.val Order-T.the-type Order-L.the-laws order ∷ []) _ $
@@ -144,7 +144,7 @@ module _ {M : Type 1} (𝓤 : URA M) (H : Heap 𝓤) (A : Atoms 𝓤) (W : Given
         (λ r4. Unit {0}) (λ κs r4 ws. factI 𝓤 (Unit {0}) (emp 𝓤) tt) (λ κs. (and-then ! (load ! (from ! (stop !)) (look ! 23 refl)) (and-then ! (load ! (from ! (stop !)) (look ! 17 refl)) (no-more !))))
         (λ u4 r4 e4 is4.
         land ! (from ! (stop !)) (init ! 4 refl (nothing-lawful 𝓤 H A W .typed r4 _ is4 .0)) $
-        -- after
+        -- desk_orders::lent::after
         calls-plain ! fm Lent-T.the-row (plain (λ _. Lent-T.the-row) ∷ plain (λ _. Changed-T.the-row) ∷ []) (yes, (yes, tt)) (after-F.clauses 𝓤 H A mem run) known-after
         (λ κs. (lent, (r3, tt))) (λ κs. (SL.val Lent-T.the-type Lent-L.the-laws lent ∷ [], (SL.val Changed-T.the-type Changed-L.the-laws r3 ∷ [], tt))) (λ κs. owns-make 𝓤 H A (Lent-T.the-row ∷ Changed-T.the-row ∷ []) (Ises (Lent-T.the-row ∷ Changed-T.the-row ∷ [])) (SL.makes Lent-T.the-type Lent-L.the-plain 𝓤 H A, (SL.makes Changed-T.the-type Changed-L.the-plain 𝓤 H A, tt)) (lent, (r3, tt)) (SL.val Lent-T.the-type Lent-L.the-laws lent ∷ [], (SL.val Changed-T.the-type Changed-L.the-laws r3 ∷ [], tt)) (is-lent, ((told Changed-T.the-type Changed-L.the-laws r3 _ is3), tt))) (λ κs. tt) (λ κs. id⊢ 𝓤 _)
         (λ r5. Unit {0}) (λ κs r5 ws. factI 𝓤 (Unit {0}) (emp 𝓤) tt) (λ κs. (and-then ! (load ! (from ! (stop !)) (look ! 25 refl)) (and-then ! (load ! (from ! (stop !)) (look ! 17 refl)) (no-more !))))
@@ -155,12 +155,12 @@ module _ {M : Type 1} (𝓤 : URA M) (H : Heap 𝓤) (A : Atoms 𝓤) (W : Given
         by ! (exits (SL.val Lent-T.the-type Lent-L.the-laws r5) r5 (refronted r1 words words3) (refronted r2 fences fences3) (front-length r1 words (length words) refl (front-1 words lent r1 e1) words3 n-words3) (front-length r2 fences (length fences) refl (front-2 fences lent r2 e2) fences3 n-fences3) (told Lent-T.the-type Lent-L.the-laws r5 _ is5)))))))))))))))))))))
 
 module _ {M : Type 1} (𝓤 : URA M) (H : Heap 𝓤) (A : Atoms 𝓤) (W : Given 𝓤 H A) (mem : Memory → SProp 𝓤) (run : Routine → Fun 𝓤) where
-  obey-change-walks : (𝓣 : Tables 𝓤 H) → Triple 𝓤 (𝓣 .C #groups·groups-rows-smaller) (contractOf 𝓤 H A groups-rows-smaller-F.ended (groups-rows-smaller-F.clauses 𝓤 H A mem run)) → Triple 𝓤 (𝓣 .C #desk·make-change) (contractOf 𝓤 H A make-change-F.ended (make-change-F.clauses 𝓤 H A mem run)) → Triple 𝓤 (𝓣 .C #desk·say-changed) (contractOf 𝓤 H A say-changed-F.ended (say-changed-F.clauses 𝓤 H A mem run)) → Triple 𝓤 (𝓣 .C #desk·after) (contractOf 𝓤 H A after-F.ended (after-F.clauses 𝓤 H A mem run)) → Walks 𝓤 H A obey-change-F.ended stayed (WpFn 𝓤 H (𝓣 .C) (𝓣 .Λ) code.function) (obey-change-F.clauses 𝓤 H A mem run)
+  obey-change-walks : (𝓣 : Tables 𝓤 H) → Triple 𝓤 (𝓣 .C #groups·groups-rows-smaller) (contractOf 𝓤 H A groups-rows-smaller-F.ended (groups-rows-smaller-F.clauses 𝓤 H A mem run)) → Triple 𝓤 (𝓣 .C #desk·make-change) (contractOf 𝓤 H A make-change-F.ended (make-change-F.clauses 𝓤 H A mem run)) → Triple 𝓤 (𝓣 .C #desk·say-changed) (contractOf 𝓤 H A say-changed-F.ended (say-changed-F.clauses 𝓤 H A mem run)) → Triple 𝓤 (𝓣 .C #desk_orders·after) (contractOf 𝓤 H A after-F.ended (after-F.clauses 𝓤 H A mem run)) → Walks 𝓤 H A obey-change-F.ended stayed (WpFn 𝓤 H (𝓣 .C) (𝓣 .Λ) code.function) (obey-change-F.clauses 𝓤 H A mem run)
   obey-change-walks 𝓣 known-groups-rows-smaller known-make-change known-say-changed known-after =
       walked 𝓤 H A obey-change-F.ended stayed (obey-change-F.clauses 𝓤 H A mem run) (WpFn 𝓤 H (𝓣 .C) (𝓣 .Λ) code.function) (λ κs. (slice-vals, (slice-vals, (SL.vals Lent-T.the-type Lent-L.the-laws, (SL.vals Order-T.the-type Order-L.the-laws, tt))))) (λ κs. (mut-slice-tells (named 0) (κs .0) u32, (mut-slice-tells (named 1) (κs .1 .0) Fence-T.the-row, (SL.tells Lent-T.the-type Lent-L.the-laws, (SL.tells Order-T.the-type Order-L.the-laws, tt)))))
       (λ κs qs bounds a g are. via 𝓤 _ (fst∗ 𝓤 _ (emp 𝓤)) (walk 𝓤 H A W mem run (κs .0) (κs .1 .0) (qs .0) (qs .1 .0) (a .0 .ptr .0) (a .0 .ptr .1) (a .0 .name) (a .0 .now) (a .1 .0 .ptr .0) (a .1 .0 .ptr .1) (a .1 .0 .name) (a .1 .0 .now) (a .1 .1 .0) (a .1 .1 .1 .0) 𝓣 (fmOf 𝓤 H (W .laws) 𝓣) known-groups-rows-smaller known-make-change known-say-changed known-after (are .0 .0 .1) (are .1 .0 .0 .1) (are .1 .1 .0) (are .1 .1 .1 .0)))
 
-obey-change-meets : {M : Type 1} (𝓤 : URA M) (H : Heap 𝓤) (A : Atoms 𝓤) (W : Given 𝓤 H A) (mem : Memory → SProp 𝓤) (run : Routine → Fun 𝓤) (𝓣 : Tables 𝓤 H) → Triple 𝓤 (𝓣 .C #groups·groups-rows-smaller) (contractOf 𝓤 H A groups-rows-smaller-F.ended (groups-rows-smaller-F.clauses 𝓤 H A mem run)) → Triple 𝓤 (𝓣 .C #desk·make-change) (contractOf 𝓤 H A make-change-F.ended (make-change-F.clauses 𝓤 H A mem run)) → Triple 𝓤 (𝓣 .C #desk·say-changed) (contractOf 𝓤 H A say-changed-F.ended (say-changed-F.clauses 𝓤 H A mem run)) → Triple 𝓤 (𝓣 .C #desk·after) (contractOf 𝓤 H A after-F.ended (after-F.clauses 𝓤 H A mem run)) → Meets 𝓤 H A obey-change-F.signature (WpFn 𝓤 H (𝓣 .C) (𝓣 .Λ) code.function) (obey-change-F.spec 𝓤 H A mem run)
+obey-change-meets : {M : Type 1} (𝓤 : URA M) (H : Heap 𝓤) (A : Atoms 𝓤) (W : Given 𝓤 H A) (mem : Memory → SProp 𝓤) (run : Routine → Fun 𝓤) (𝓣 : Tables 𝓤 H) → Triple 𝓤 (𝓣 .C #groups·groups-rows-smaller) (contractOf 𝓤 H A groups-rows-smaller-F.ended (groups-rows-smaller-F.clauses 𝓤 H A mem run)) → Triple 𝓤 (𝓣 .C #desk·make-change) (contractOf 𝓤 H A make-change-F.ended (make-change-F.clauses 𝓤 H A mem run)) → Triple 𝓤 (𝓣 .C #desk·say-changed) (contractOf 𝓤 H A say-changed-F.ended (say-changed-F.clauses 𝓤 H A mem run)) → Triple 𝓤 (𝓣 .C #desk_orders·after) (contractOf 𝓤 H A after-F.ended (after-F.clauses 𝓤 H A mem run)) → Meets 𝓤 H A obey-change-F.signature (WpFn 𝓤 H (𝓣 .C) (𝓣 .Λ) code.function) (obey-change-F.spec 𝓤 H A mem run)
 obey-change-meets 𝓤 H A W mem run 𝓣 known-groups-rows-smaller known-make-change known-say-changed known-after =
     walk-meets 𝓤 H A obey-change-F.ended stayed W (goes-slice 𝓤 H A W 2 0 tt (plain (λ _. u32)), (goes-slice 𝓤 H A W 2 1 tt (plain (λ _. Fence-T.the-row)), (goes-dropped 𝓤 H A W 2 (plain (λ _. Lent-T.the-row)) yes (λ κs x f. refl), (goes-dropped 𝓤 H A W 2 (plain (λ _. Order-T.the-row)) yes (λ κs x f. refl), tt))))
     (obey-change-F.clauses 𝓤 H A mem run) (WpFn 𝓤 H (𝓣 .C) (𝓣 .Λ) code.function) (WpFn-mono 𝓤 H (W .laws) 𝓣 code.function) (obey-change-walks 𝓤 H A W mem run 𝓣 known-groups-rows-smaller known-make-change known-say-changed known-after)
@@ -174,4 +174,4 @@ obey-change-spec 𝓤 H 𝓜 𝓖 𝓡 =
     (cited 𝓤 H (tripleOf 𝓤 H (𝓖 .A) groups-rows-smaller-F.signature (groups-rows-smaller-F.spec 𝓤 H (𝓖 .A) (𝓜 .mem) (𝓡 .run))) 𝓜 𝓡 code.env #groups·groups-rows-smaller groups-rows-smaller-def.routine code.calls-groups·rows·smaller (groups-rows-smaller-thm.met 𝓤 H 𝓜 𝓖 𝓡))
     (cited 𝓤 H (tripleOf 𝓤 H (𝓖 .A) make-change-F.signature (make-change-F.spec 𝓤 H (𝓖 .A) (𝓜 .mem) (𝓡 .run))) 𝓜 𝓡 code.env #desk·make-change make-change-def.routine code.calls-desk·lending·make-change (make-change-thm.met 𝓤 H 𝓜 𝓖 𝓡))
     (cited 𝓤 H (tripleOf 𝓤 H (𝓖 .A) say-changed-F.signature (say-changed-F.spec 𝓤 H (𝓖 .A) (𝓜 .mem) (𝓡 .run))) 𝓜 𝓡 code.env #desk·say-changed say-changed-def.routine code.calls-desk·lending·say-changed (say-changed-thm.met 𝓤 H 𝓜 𝓖 𝓡))
-    (cited 𝓤 H (tripleOf 𝓤 H (𝓖 .A) after-F.signature (after-F.spec 𝓤 H (𝓖 .A) (𝓜 .mem) (𝓡 .run))) 𝓜 𝓡 code.env #desk·after after-def.routine code.calls-desk·lent·after (after-thm.met 𝓤 H 𝓜 𝓖 𝓡)))
+    (cited 𝓤 H (tripleOf 𝓤 H (𝓖 .A) after-F.signature (after-F.spec 𝓤 H (𝓖 .A) (𝓜 .mem) (𝓡 .run))) 𝓜 𝓡 code.env #desk_orders·after after-def.routine code.calls-desk-orders·lent·after (after-thm.met 𝓤 H 𝓜 𝓖 𝓡)))

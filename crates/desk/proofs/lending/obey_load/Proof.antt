@@ -43,21 +43,21 @@ use denote.Triple.Walked.{Stays, stay-slice, stay-dropped, walkOf, Walks, ends-a
 use Rattle.lines.proofs.columns.Counted as Counted-T
 use Rattle.lines.proofs.columns.Counted.Laws as Counted-L
 use Rattle.lines.specs.declared.columns.Counted.the-variants.{Count, Wrong}
-use Rattle.steps.specs.declared.header.Fence.{Fence}
-use Rattle.steps.proofs.header.Fence as Fence-T
-use Rattle.desk.specs.declared.lent.Lent.{Lent}
-use Rattle.desk.proofs.lent.Lent as Lent-T
-use Rattle.desk.proofs.lent.Lent.Laws as Lent-L
+use Rattle.block_read.specs.declared.fence.Fence.{Fence}
+use Rattle.block_read.proofs.fence.Fence as Fence-T
+use Rattle.desk_orders.specs.declared.lent.Lent.{Lent}
+use Rattle.desk_orders.proofs.lent.Lent as Lent-T
+use Rattle.desk_orders.proofs.lent.Lent.Laws as Lent-L
 use Rattle.lines.specs.declared.orders.Order.{Order}
 use Rattle.lines.proofs.orders.Order as Order-T
 use Rattle.lines.proofs.orders.Order.Laws as Order-L
 use Rattle.lines.specs.declared.input.Waiting.{Waiting}
 use Rattle.lines.proofs.input.Waiting as Waiting-T
 use Rattle.lines.proofs.input.Waiting.Laws as Waiting-L
-use Rattle.walks.proofs.Lend.{ref}
-use Rattle.walks.proofs.Flow.{told, matches, frees-all, empties, big-lit}
-use Rattle.walks.proofs.Local.{repeats, lend-array, back-array}
-use Rattle.walks.proofs.Calls.{contractOf, calls-mut-mut-mut-last, calls-plain, calls-shr-mut}
+use Rattle.mir_walks.proofs.Lend.{ref}
+use Rattle.mir_walks.proofs.Flow.{told, matches, frees-all, empties, big-lit}
+use Rattle.mir_walks.proofs.Local.{repeats, lend-array, back-array}
+use Rattle.mir_walks.proofs.Calls.{contractOf, calls-mut-mut-mut-last, calls-plain, calls-shr-mut}
 use Rattle.lines.proofs.columns.read_column as read-column-F
 use Rattle.lines.proofs.columns.read_column.Symbol as read-column-def
 use Rattle.lines.proofs.columns.read_column.Symbol.{name as #lines·read-column}
@@ -66,10 +66,10 @@ use Rattle.desk.proofs.lending.load_lent as load-lent-F
 use Rattle.desk.proofs.lending.load_lent.Symbol as load-lent-def
 use Rattle.desk.proofs.lending.load_lent.Symbol.{name as #desk·load-lent}
 use Rattle.desk.proofs.lending.load_lent.Met as load-lent-thm
-use Rattle.desk.proofs.lending.say_wrong as say-wrong-F
-use Rattle.desk.proofs.lending.say_wrong.Symbol as say-wrong-def
-use Rattle.desk.proofs.lending.say_wrong.Symbol.{name as #desk·say-wrong}
-use Rattle.desk.proofs.lending.say_wrong.Met as say-wrong-thm
+use Rattle.lines.proofs.say.say_no_line as say-no-line-F
+use Rattle.lines.proofs.say.say_no_line.Symbol as say-no-line-def
+use Rattle.lines.proofs.say.say_no_line.Symbol.{name as #lines·say-no-line}
+use Rattle.lines.proofs.say.say_no_line.Met as say-no-line-thm
 use Rattle.desk.proofs.lending.obey_load.Key.{name as #desk·obey-load}
 use Rattle.desk.proofs.lending.obey_load as obey-load-F
 use Rattle.desk.proofs.lending.obey_load.Statement as stated
@@ -110,7 +110,7 @@ module _ {M : Type 1} (𝓤 : URA M) (H : Heap 𝓤) (A : Atoms 𝓤) (W : Given
       suffices ! _ (ends-at 𝓤 H A obey-load-F.ended stayed (obey-load-F.clauses 𝓤 H A mem run) W bound-of u r (words′, (fences′, (tt, (tt, (tt, (tt, tt)))))) (n-words′, (n-fences′, (tt, (tt, (tt, (tt, tt))))))) $ empties ! $
       nothing ! $ move ! (5 ∷ 0 ∷ []) $ join ! $ move ! (3 ∷ 0 ∷ []) $ join ! $ move ! (1 ∷ 0 ∷ []) $ join ! $ frame ! $ nothing ! $ nothing ! $ fjoin ! $ nothing ! $ fjoin ! $ nothing ! $ fjoin ! $ nothing ! $ fjoin ! $ move ! (2 ∷ 0 ∷ []) $ fjoin ! $ move ! (1 ∷ 0 ∷ []) $ fjoin ! $ frame ! $ owned ! Lent-T.the-row (Is Lent-T.the-row) (SL.makes Lent-T.the-type Lent-L.the-plain 𝓤 H A) r _ is $ done !
 
-  module _ (𝓣 : Tables 𝓤 H) (fm : FmC 𝓤 H (W .laws) (𝓣 .C)) (known-read-column : Triple 𝓤 (𝓣 .C #lines·read-column) (contractOf 𝓤 H A read-column-F.ended (read-column-F.clauses 𝓤 H A mem run))) (known-load-lent : Triple 𝓤 (𝓣 .C #desk·load-lent) (contractOf 𝓤 H A load-lent-F.ended (load-lent-F.clauses 𝓤 H A mem run))) (known-say-wrong : Triple 𝓤 (𝓣 .C #desk·say-wrong) (contractOf 𝓤 H A say-wrong-F.ended (say-wrong-F.clauses 𝓤 H A mem run))) where
+  module _ (𝓣 : Tables 𝓤 H) (fm : FmC 𝓤 H (W .laws) (𝓣 .C)) (known-read-column : Triple 𝓤 (𝓣 .C #lines·read-column) (contractOf 𝓤 H A read-column-F.ended (read-column-F.clauses 𝓤 H A mem run))) (known-load-lent : Triple 𝓤 (𝓣 .C #desk·load-lent) (contractOf 𝓤 H A load-lent-F.ended (load-lent-F.clauses 𝓤 H A mem run))) (known-say-no-line : Triple 𝓤 (𝓣 .C #lines·say-no-line) (contractOf 𝓤 H A say-no-line-F.ended (say-no-line-F.clauses 𝓤 H A mem run))) where
     walk : Room u32 (length words) → Room Fence-T.the-row (length fences) → Room u8 (length input) → Is Waiting-T.the-row waiting (SL.vals Waiting-T.the-type Waiting-L.the-laws waiting) → Is Lent-T.the-row lent (SL.vals Lent-T.the-type Lent-L.the-laws lent) → Is Order-T.the-row order (SL.vals Order-T.the-type Order-L.the-laws order) → ent 𝓤 (onEntry 𝓤 H A obey-load-F.signature (κ₀, (κ₁, (κ₂, tt))) (q₀, (q₁, (q₂, tt))) args-of vals-of) (WpFn 𝓤 H (𝓣 .C) (𝓣 .Λ) code.function (sliceVal (b₀, o₀) (length words) ∷ sliceVal (b₁, o₁) (length fences) ∷ sliceVal (b₂, o₂) (length input) ∷ SL.val Waiting-T.the-type Waiting-L.the-laws waiting ∷ SL.val Lent-T.the-type Lent-L.the-laws lent ∷ SL.val Order-T.the-type Order-L.the-laws order ∷ []) Post)
     walk room-words room-fences room-input is-waiting is-lent is-order =
         qed W ((‵ (flft κ₀ q₀) ⊛ (‵ (flft κ₁ q₁) ⊛ (‵ (flft κ₂ q₂) ⊛ ‵ ftrue))) ∷ ‵ (owns (MutSlice (named 0) κ₀ u32 ∷ MutSlice (named 1) κ₁ Fence-T.the-row ∷ ShrSlice (named 2) κ₂ u8 ∷ Waiting-T.the-row ∷ Lent-T.the-row ∷ Order-T.the-row ∷ []) args-of vals-of) ∷ []) ∵ enter ! (𝓣 .C) (𝓣 .Λ) code.function (sliceVal (b₀, o₀) (length words) ∷ sliceVal (b₁, o₁) (length fences) ∷ sliceVal (b₂, o₂) (length input) ∷ SL.val Waiting-T.the-type Waiting-L.the-laws waiting ∷ SL.val Lent-T.the-type Lent-L.the-laws lent ∷ SL.val Order-T.the-type Order-L.the-laws order ∷ []) _ $
@@ -158,8 +158,8 @@ module _ {M : Type 1} (𝓤 : URA M) (H : Heap 𝓤) (A : Atoms 𝓤) (W : Given
           | Wrong ↦ λ column1 n-column1 e1 is1.
               land ! (from ! (stop !)) (init ! 28 refl (EL.lawful Counted-T.the-type Counted-L.the-laws 𝓤 H A W tt .typed Wrong _ is1 .0)) $ rewrite ! 28 (λ (w : Val). ‵ (fat fullShare (Counted-L.mir) l₉ 0 w)) (ap only (EL.tells Counted-T.the-type Counted-L.the-laws Wrong _ is1)) refl $
               matches ! (load ! (from ! (vrt ! refl (fld ! refl (stop !)))) (look-tag ! 28 (whole !))) tt (λ on2.
-              -- say_wrong
-              calls-plain ! fm NoValue [] tt (say-wrong-F.clauses 𝓤 H A mem run) known-say-wrong
+              -- lines::say::say_no_line
+              calls-plain ! fm NoValue [] tt (say-no-line-F.clauses 𝓤 H A mem run) known-say-no-line
               (λ κs. tt) (λ κs. tt) (λ κs. owns-make 𝓤 H A [] (Ises []) tt tt tt tt) (λ κs. tt) (λ κs. id⊢ 𝓤 _)
               (λ r3. Unit {0}) (λ κs r3 ws. factI 𝓤 (Unit {0}) (emp 𝓤) tt) (λ κs. (no-more !))
               (λ u3 r3 e3 is3.
@@ -175,15 +175,15 @@ module _ {M : Type 1} (𝓤 : URA M) (H : Heap 𝓤) (A : Atoms 𝓤) (W : Given
         ]))))))))))))))))))))))
 
 module _ {M : Type 1} (𝓤 : URA M) (H : Heap 𝓤) (A : Atoms 𝓤) (W : Given 𝓤 H A) (mem : Memory → SProp 𝓤) (run : Routine → Fun 𝓤) where
-  obey-load-walks : (𝓣 : Tables 𝓤 H) → Triple 𝓤 (𝓣 .C #lines·read-column) (contractOf 𝓤 H A read-column-F.ended (read-column-F.clauses 𝓤 H A mem run)) → Triple 𝓤 (𝓣 .C #desk·load-lent) (contractOf 𝓤 H A load-lent-F.ended (load-lent-F.clauses 𝓤 H A mem run)) → Triple 𝓤 (𝓣 .C #desk·say-wrong) (contractOf 𝓤 H A say-wrong-F.ended (say-wrong-F.clauses 𝓤 H A mem run)) → Walks 𝓤 H A obey-load-F.ended stayed (WpFn 𝓤 H (𝓣 .C) (𝓣 .Λ) code.function) (obey-load-F.clauses 𝓤 H A mem run)
-  obey-load-walks 𝓣 known-read-column known-load-lent known-say-wrong =
+  obey-load-walks : (𝓣 : Tables 𝓤 H) → Triple 𝓤 (𝓣 .C #lines·read-column) (contractOf 𝓤 H A read-column-F.ended (read-column-F.clauses 𝓤 H A mem run)) → Triple 𝓤 (𝓣 .C #desk·load-lent) (contractOf 𝓤 H A load-lent-F.ended (load-lent-F.clauses 𝓤 H A mem run)) → Triple 𝓤 (𝓣 .C #lines·say-no-line) (contractOf 𝓤 H A say-no-line-F.ended (say-no-line-F.clauses 𝓤 H A mem run)) → Walks 𝓤 H A obey-load-F.ended stayed (WpFn 𝓤 H (𝓣 .C) (𝓣 .Λ) code.function) (obey-load-F.clauses 𝓤 H A mem run)
+  obey-load-walks 𝓣 known-read-column known-load-lent known-say-no-line =
       walked 𝓤 H A obey-load-F.ended stayed (obey-load-F.clauses 𝓤 H A mem run) (WpFn 𝓤 H (𝓣 .C) (𝓣 .Λ) code.function) (λ κs. (slice-vals, (slice-vals, (slice-vals, (SL.vals Waiting-T.the-type Waiting-L.the-laws, (SL.vals Lent-T.the-type Lent-L.the-laws, (SL.vals Order-T.the-type Order-L.the-laws, tt))))))) (λ κs. (mut-slice-tells (named 0) (κs .0) u32, (mut-slice-tells (named 1) (κs .1 .0) Fence-T.the-row, (shr-slice-tells (named 2) (κs .1 .1 .0) u8, (SL.tells Waiting-T.the-type Waiting-L.the-laws, (SL.tells Lent-T.the-type Lent-L.the-laws, (SL.tells Order-T.the-type Order-L.the-laws, tt)))))))
-      (λ κs qs bounds a g are. via 𝓤 _ (fst∗ 𝓤 _ (emp 𝓤)) (walk 𝓤 H A W mem run (κs .0) (κs .1 .0) (κs .1 .1 .0) (qs .0) (qs .1 .0) (qs .1 .1 .0) (a .0 .ptr .0) (a .0 .ptr .1) (a .0 .name) (a .0 .now) (a .1 .0 .ptr .0) (a .1 .0 .ptr .1) (a .1 .0 .name) (a .1 .0 .now) (a .1 .1 .0 .ptr .0) (a .1 .1 .0 .ptr .1) (a .1 .1 .0 .name) (a .1 .1 .0 .now) (a .1 .1 .1 .0) (a .1 .1 .1 .1 .0) (a .1 .1 .1 .1 .1 .0) 𝓣 (fmOf 𝓤 H (W .laws) 𝓣) known-read-column known-load-lent known-say-wrong (are .0 .0 .1) (are .1 .0 .0 .1) (are .1 .1 .0 .0 .1) (are .1 .1 .1 .0) (are .1 .1 .1 .1 .0) (are .1 .1 .1 .1 .1 .0)))
+      (λ κs qs bounds a g are. via 𝓤 _ (fst∗ 𝓤 _ (emp 𝓤)) (walk 𝓤 H A W mem run (κs .0) (κs .1 .0) (κs .1 .1 .0) (qs .0) (qs .1 .0) (qs .1 .1 .0) (a .0 .ptr .0) (a .0 .ptr .1) (a .0 .name) (a .0 .now) (a .1 .0 .ptr .0) (a .1 .0 .ptr .1) (a .1 .0 .name) (a .1 .0 .now) (a .1 .1 .0 .ptr .0) (a .1 .1 .0 .ptr .1) (a .1 .1 .0 .name) (a .1 .1 .0 .now) (a .1 .1 .1 .0) (a .1 .1 .1 .1 .0) (a .1 .1 .1 .1 .1 .0) 𝓣 (fmOf 𝓤 H (W .laws) 𝓣) known-read-column known-load-lent known-say-no-line (are .0 .0 .1) (are .1 .0 .0 .1) (are .1 .1 .0 .0 .1) (are .1 .1 .1 .0) (are .1 .1 .1 .1 .0) (are .1 .1 .1 .1 .1 .0)))
 
-obey-load-meets : {M : Type 1} (𝓤 : URA M) (H : Heap 𝓤) (A : Atoms 𝓤) (W : Given 𝓤 H A) (mem : Memory → SProp 𝓤) (run : Routine → Fun 𝓤) (𝓣 : Tables 𝓤 H) → Triple 𝓤 (𝓣 .C #lines·read-column) (contractOf 𝓤 H A read-column-F.ended (read-column-F.clauses 𝓤 H A mem run)) → Triple 𝓤 (𝓣 .C #desk·load-lent) (contractOf 𝓤 H A load-lent-F.ended (load-lent-F.clauses 𝓤 H A mem run)) → Triple 𝓤 (𝓣 .C #desk·say-wrong) (contractOf 𝓤 H A say-wrong-F.ended (say-wrong-F.clauses 𝓤 H A mem run)) → Meets 𝓤 H A obey-load-F.signature (WpFn 𝓤 H (𝓣 .C) (𝓣 .Λ) code.function) (obey-load-F.spec 𝓤 H A mem run)
-obey-load-meets 𝓤 H A W mem run 𝓣 known-read-column known-load-lent known-say-wrong =
+obey-load-meets : {M : Type 1} (𝓤 : URA M) (H : Heap 𝓤) (A : Atoms 𝓤) (W : Given 𝓤 H A) (mem : Memory → SProp 𝓤) (run : Routine → Fun 𝓤) (𝓣 : Tables 𝓤 H) → Triple 𝓤 (𝓣 .C #lines·read-column) (contractOf 𝓤 H A read-column-F.ended (read-column-F.clauses 𝓤 H A mem run)) → Triple 𝓤 (𝓣 .C #desk·load-lent) (contractOf 𝓤 H A load-lent-F.ended (load-lent-F.clauses 𝓤 H A mem run)) → Triple 𝓤 (𝓣 .C #lines·say-no-line) (contractOf 𝓤 H A say-no-line-F.ended (say-no-line-F.clauses 𝓤 H A mem run)) → Meets 𝓤 H A obey-load-F.signature (WpFn 𝓤 H (𝓣 .C) (𝓣 .Λ) code.function) (obey-load-F.spec 𝓤 H A mem run)
+obey-load-meets 𝓤 H A W mem run 𝓣 known-read-column known-load-lent known-say-no-line =
     walk-meets 𝓤 H A obey-load-F.ended stayed W (goes-slice 𝓤 H A W 3 0 tt (plain (λ _. u32)), (goes-slice 𝓤 H A W 3 1 tt (plain (λ _. Fence-T.the-row)), (goes-dropped 𝓤 H A W 3 (shrSliceOf (2 ∷ []) tt (plain (λ _. u8))) yes (λ κs x f. refl), (goes-dropped 𝓤 H A W 3 (plain (λ _. Waiting-T.the-row)) yes (λ κs x f. refl), (goes-dropped 𝓤 H A W 3 (plain (λ _. Lent-T.the-row)) yes (λ κs x f. refl), (goes-dropped 𝓤 H A W 3 (plain (λ _. Order-T.the-row)) yes (λ κs x f. refl), tt))))))
-    (obey-load-F.clauses 𝓤 H A mem run) (WpFn 𝓤 H (𝓣 .C) (𝓣 .Λ) code.function) (WpFn-mono 𝓤 H (W .laws) 𝓣 code.function) (obey-load-walks 𝓤 H A W mem run 𝓣 known-read-column known-load-lent known-say-wrong)
+    (obey-load-F.clauses 𝓤 H A mem run) (WpFn 𝓤 H (𝓣 .C) (𝓣 .Λ) code.function) (WpFn-mono 𝓤 H (W .laws) 𝓣 code.function) (obey-load-walks 𝓤 H A W mem run 𝓣 known-read-column known-load-lent known-say-no-line)
 
 pub obey-load-spec : {M : Type 1} → stated.statement M
 unfolding code.routine tablesOf
@@ -193,4 +193,4 @@ obey-load-spec 𝓤 H 𝓜 𝓖 𝓡 =
     (obey-load-meets 𝓤 H (𝓖 .A) (givenOf 𝓤 H 𝓜 𝓖) (𝓜 .mem) (𝓡 .run) (tablesOf 𝓤 H 𝓜 (tables 𝓤 H 𝓜 𝓡 code.env))
     (cited 𝓤 H (tripleOf 𝓤 H (𝓖 .A) read-column-F.signature (read-column-F.spec 𝓤 H (𝓖 .A) (𝓜 .mem) (𝓡 .run))) 𝓜 𝓡 code.env #lines·read-column read-column-def.routine code.calls-lines·columns·read-column (read-column-thm.met 𝓤 H 𝓜 𝓖 𝓡))
     (cited 𝓤 H (tripleOf 𝓤 H (𝓖 .A) load-lent-F.signature (load-lent-F.spec 𝓤 H (𝓖 .A) (𝓜 .mem) (𝓡 .run))) 𝓜 𝓡 code.env #desk·load-lent load-lent-def.routine code.calls-desk·lending·load-lent (load-lent-thm.met 𝓤 H 𝓜 𝓖 𝓡))
-    (cited 𝓤 H (tripleOf 𝓤 H (𝓖 .A) say-wrong-F.signature (say-wrong-F.spec 𝓤 H (𝓖 .A) (𝓜 .mem) (𝓡 .run))) 𝓜 𝓡 code.env #desk·say-wrong say-wrong-def.routine code.calls-desk·lending·say-wrong (say-wrong-thm.met 𝓤 H 𝓜 𝓖 𝓡)))
+    (cited 𝓤 H (tripleOf 𝓤 H (𝓖 .A) say-no-line-F.signature (say-no-line-F.spec 𝓤 H (𝓖 .A) (𝓜 .mem) (𝓡 .run))) 𝓜 𝓡 code.env #lines·say-no-line say-no-line-def.routine code.calls-lines·say·say-no-line (say-no-line-thm.met 𝓤 H 𝓜 𝓖 𝓡)))

@@ -36,19 +36,19 @@ use denote.Triple.Spec.{Meets, tripleOf}
 use denote.Triple.Statement.{Triple}
 use denote.Triple.Table.{entered, cited}
 use denote.Triple.Walked.{says, Stays, stay-slice, stay-dropped, walkOf, Walks, ends-at, walked, goes-slice, goes-dropped, walk-meets}
-use Rattle.desk.proofs.Parts.{within}
-use Rattle.steps.specs.declared.header.Fence.{Fence}
-use Rattle.steps.proofs.header.Fence as Fence-T
-use Rattle.desk.specs.declared.lent.Lent.{Lent}
-use Rattle.desk.proofs.lent.Lent as Lent-T
-use Rattle.desk.proofs.lent.Lent.Laws as Lent-L
+use Rattle.desk_orders.proofs.Parts.{within}
+use Rattle.block_read.specs.declared.fence.Fence.{Fence}
+use Rattle.block_read.proofs.fence.Fence as Fence-T
+use Rattle.desk_orders.specs.declared.lent.Lent.{Lent}
+use Rattle.desk_orders.proofs.lent.Lent as Lent-T
+use Rattle.desk_orders.proofs.lent.Lent.Laws as Lent-L
 use Rattle.lines.specs.declared.orders.Order.{Order}
 use Rattle.lines.proofs.orders.Order as Order-T
 use Rattle.lines.proofs.orders.Order.Laws as Order-L
-use Rattle.walks.proofs.Lend.{ref}
-use Rattle.walks.proofs.Flow.{frees-all, empties}
-use Rattle.walks.proofs.Front.{refronted, front-length}
-use Rattle.walks.proofs.Calls.{contractOf, calls-front-front, calls-plain}
+use Rattle.mir_walks.proofs.Lend.{ref}
+use Rattle.mir_walks.proofs.Flow.{frees-all, empties}
+use Rattle.mir_walks.proofs.Front.{refronted, front-length}
+use Rattle.mir_walks.proofs.Calls.{contractOf, calls-front-front, calls-plain}
 use Rattle.groups.proofs.rows.smaller as groups-rows-smaller-F
 use Rattle.groups.proofs.rows.smaller.Symbol as groups-rows-smaller-def
 use Rattle.groups.proofs.rows.smaller.Symbol.{name as #groups·groups-rows-smaller}

@@ -38,11 +38,11 @@ use denote.Triple.Spec.{Meets, tripleOf}
 use denote.Triple.Statement.{Triple}
 use denote.Triple.Table.{entered, cited}
 use denote.Triple.Walked.{Stays, stay-slice, stay-dropped, walkOf, Walks, ends-at, walked, goes-slice, goes-dropped, walk-meets}
-use Rattle.steps.specs.declared.header.Fence.{Fence}
-use Rattle.steps.proofs.header.Fence as Fence-T
-use Rattle.desk.specs.declared.lent.Lent.{Lent}
-use Rattle.desk.proofs.lent.Lent as Lent-T
-use Rattle.desk.proofs.lent.Lent.Laws as Lent-L
+use Rattle.block_read.specs.declared.fence.Fence.{Fence}
+use Rattle.block_read.proofs.fence.Fence as Fence-T
+use Rattle.desk_orders.specs.declared.lent.Lent.{Lent}
+use Rattle.desk_orders.proofs.lent.Lent as Lent-T
+use Rattle.desk_orders.proofs.lent.Lent.Laws as Lent-L
 use Rattle.lines.proofs.orders.Order as Order-T
 use Rattle.lines.proofs.orders.Order.Laws as Order-L
 use Rattle.lines.proofs.orders.Request as Request-T
@@ -51,9 +51,9 @@ use Rattle.lines.specs.declared.orders.Request.the-variants.{Loads, Changes, As
 use Rattle.lines.specs.declared.input.Waiting.{Waiting}
 use Rattle.lines.proofs.input.Waiting as Waiting-T
 use Rattle.lines.proofs.input.Waiting.Laws as Waiting-L
-use Rattle.walks.proofs.Lend.{ref}
-use Rattle.walks.proofs.Flow.{told, matches, frees-all, empties}
-use Rattle.walks.proofs.Calls.{contractOf, calls-mut, calls-mut-mut, calls-mut-mut-last, calls-mut-mut-shr-last, calls-mut-shr-last, calls-shr}
+use Rattle.mir_walks.proofs.Lend.{ref}
+use Rattle.mir_walks.proofs.Flow.{told, matches, frees-all, empties}
+use Rattle.mir_walks.proofs.Calls.{contractOf, calls-mut, calls-mut-mut, calls-mut-mut-last, calls-mut-mut-shr-last, calls-mut-shr-last, calls-shr}
 use Rattle.lines.proofs.orders.next_request as next-request-F
 use Rattle.lines.proofs.orders.next_request.Symbol as next-request-def
 use Rattle.lines.proofs.orders.next_request.Symbol.{name as #lines·next-request}
@@ -70,14 +70,14 @@ use Rattle.desk.proofs.lending.obey_question as obey-question-F
 use Rattle.desk.proofs.lending.obey_question.Symbol as obey-question-def
 use Rattle.desk.proofs.lending.obey_question.Symbol.{name as #desk·obey-question}
 use Rattle.desk.proofs.lending.obey_question.Met as obey-question-thm
-use Rattle.desk.proofs.records.obey_records as obey-records-F
-use Rattle.desk.proofs.records.obey_records.Symbol as obey-records-def
-use Rattle.desk.proofs.records.obey_records.Symbol.{name as #desk·obey-records}
-use Rattle.desk.proofs.records.obey_records.Met as obey-records-thm
-use Rattle.desk.proofs.memory.obey_other as obey-other-F
-use Rattle.desk.proofs.memory.obey_other.Symbol as obey-other-def
-use Rattle.desk.proofs.memory.obey_other.Symbol.{name as #desk·obey-other}
-use Rattle.desk.proofs.memory.obey_other.Met as obey-other-thm
+use Rattle.desk_orders.proofs.records.obey_records as obey-records-F
+use Rattle.desk_orders.proofs.records.obey_records.Symbol as obey-records-def
+use Rattle.desk_orders.proofs.records.obey_records.Symbol.{name as #desk_orders·obey-records}
+use Rattle.desk_orders.proofs.records.obey_records.Met as obey-records-thm
+use Rattle.desk_orders.proofs.word_orders.obey_other as obey-other-F
+use Rattle.desk_orders.proofs.word_orders.obey_other.Symbol as obey-other-def
+use Rattle.desk_orders.proofs.word_orders.obey_other.Symbol.{name as #desk_orders·obey-other}
+use Rattle.desk_orders.proofs.word_orders.obey_other.Met as obey-other-thm
 use Rattle.desk.proofs.serve.answer.Key.{name as #desk·answer}
 use Rattle.desk.proofs.serve.answer as answer-F
 use Rattle.desk.proofs.serve.answer.Statement as stated
@@ -108,7 +108,7 @@ module _ {M : Type 1} (𝓤 : URA M) (H : Heap 𝓤) (A : Atoms 𝓤) (W : Given
       suffices ! _ (ends-at 𝓤 H A answer-F.ended stayed (answer-F.clauses 𝓤 H A mem run) W bound-of u r (words′, (fences′, (tt, (tt, (tt, tt))))) (n-words′, (n-fences′, (tt, (tt, (tt, tt)))))) $ empties ! $
       nothing ! $ move ! (5 ∷ 0 ∷ []) $ join ! $ move ! (3 ∷ 0 ∷ []) $ join ! $ move ! (1 ∷ 0 ∷ []) $ join ! $ frame ! $ nothing ! $ nothing ! $ fjoin ! $ nothing ! $ fjoin ! $ nothing ! $ fjoin ! $ move ! (2 ∷ 0 ∷ []) $ fjoin ! $ move ! (1 ∷ 0 ∷ []) $ fjoin ! $ frame ! $ owned ! Lent-T.the-row (Is Lent-T.the-row) (SL.makes Lent-T.the-type Lent-L.the-plain 𝓤 H A) r _ is $ done !
 
-  module _ (𝓣 : Tables 𝓤 H) (fm : FmC 𝓤 H (W .laws) (𝓣 .C)) (known-next-request : Triple 𝓤 (𝓣 .C #lines·next-request) (contractOf 𝓤 H A next-request-F.ended (next-request-F.clauses 𝓤 H A mem run))) (known-obey-load : Triple 𝓤 (𝓣 .C #desk·obey-load) (contractOf 𝓤 H A obey-load-F.ended (obey-load-F.clauses 𝓤 H A mem run))) (known-obey-change : Triple 𝓤 (𝓣 .C #desk·obey-change) (contractOf 𝓤 H A obey-change-F.ended (obey-change-F.clauses 𝓤 H A mem run))) (known-obey-question : Triple 𝓤 (𝓣 .C #desk·obey-question) (contractOf 𝓤 H A obey-question-F.ended (obey-question-F.clauses 𝓤 H A mem run))) (known-obey-records : Triple 𝓤 (𝓣 .C #desk·obey-records) (contractOf 𝓤 H A obey-records-F.ended (obey-records-F.clauses 𝓤 H A mem run))) (known-obey-other : Triple 𝓤 (𝓣 .C #desk·obey-other) (contractOf 𝓤 H A obey-other-F.ended (obey-other-F.clauses 𝓤 H A mem run))) where
+  module _ (𝓣 : Tables 𝓤 H) (fm : FmC 𝓤 H (W .laws) (𝓣 .C)) (known-next-request : Triple 𝓤 (𝓣 .C #lines·next-request) (contractOf 𝓤 H A next-request-F.ended (next-request-F.clauses 𝓤 H A mem run))) (known-obey-load : Triple 𝓤 (𝓣 .C #desk·obey-load) (contractOf 𝓤 H A obey-load-F.ended (obey-load-F.clauses 𝓤 H A mem run))) (known-obey-change : Triple 𝓤 (𝓣 .C #desk·obey-change) (contractOf 𝓤 H A obey-change-F.ended (obey-change-F.clauses 𝓤 H A mem run))) (known-obey-question : Triple 𝓤 (𝓣 .C #desk·obey-question) (contractOf 𝓤 H A obey-question-F.ended (obey-question-F.clauses 𝓤 H A mem run))) (known-obey-records : Triple 𝓤 (𝓣 .C #desk_orders·obey-records) (contractOf 𝓤 H A obey-records-F.ended (obey-records-F.clauses 𝓤 H A mem run))) (known-obey-other : Triple 𝓤 (𝓣 .C #desk_orders·obey-other) (contractOf 𝓤 H A obey-other-F.ended (obey-other-F.clauses 𝓤 H A mem run))) where
     walk : Room u32 (length words) → Room Fence-T.the-row (length fences) → Room u8 (length input) → Is Waiting-T.the-row waiting (SL.vals Waiting-T.the-type Waiting-L.the-laws waiting) → Is Lent-T.the-row lent (SL.vals Lent-T.the-type Lent-L.the-laws lent) → ent 𝓤 (onEntry 𝓤 H A answer-F.signature (κ₀, (κ₁, (κ₂, tt))) (q₀, (q₁, (q₂, tt))) args-of vals-of) (WpFn 𝓤 H (𝓣 .C) (𝓣 .Λ) code.function (sliceVal (b₀, o₀) (length words) ∷ sliceVal (b₁, o₁) (length fences) ∷ sliceVal (b₂, o₂) (length input) ∷ SL.val Waiting-T.the-type Waiting-L.the-laws waiting ∷ SL.val Lent-T.the-type Lent-L.the-laws lent ∷ []) Post)
     walk room-words room-fences room-input is-waiting is-lent =
         qed W ((‵ (flft κ₀ q₀) ⊛ (‵ (flft κ₁ q₁) ⊛ (‵ (flft κ₂ q₂) ⊛ ‵ ftrue))) ∷ ‵ (owns (MutSlice (named 0) κ₀ u32 ∷ MutSlice (named 1) κ₁ Fence-T.the-row ∷ ShrSlice (named 2) κ₂ u8 ∷ Waiting-T.the-row ∷ Lent-T.the-row ∷ []) args-of vals-of) ∷ []) ∵ enter ! (𝓣 .C) (𝓣 .Λ) code.function (sliceVal (b₀, o₀) (length words) ∷ sliceVal (b₁, o₁) (length fences) ∷ sliceVal (b₂, o₂) (length input) ∷ SL.val Waiting-T.the-type Waiting-L.the-laws waiting ∷ SL.val Lent-T.the-type Lent-L.the-laws lent ∷ []) _ $
@@ -192,7 +192,7 @@ module _ {M : Type 1} (𝓤 : URA M) (H : Heap 𝓤) (A : Atoms 𝓤) (W : Given
               assigns ! (addr ! (from ! (fld ! refl (hop ! (look-in ! 62 (sub ! 0 refl (whole !))) (stop !))))) (from ! (stop !)) (init ! 12 refl (tt, tt)) $
               assigns ! (agg ! (and-then ! (load ! (from ! (stop !)) (look ! 12 refl)) (and-then ! (load ! (from ! (fld ! refl (stop !))) (look-in ! 62 (sub ! 1 refl (whole !)))) (no-more !)))) (from ! (stop !)) (init ! 10 refl (tt, (tt, (record { fits = room-fences .0 }, tt)))) $
               move ! (4 ∷ 5 ∷ []) $
-              -- obey_records
+              -- desk_orders::records::obey_records
               calls-mut ! fm Fence-T.the-row NoValue (plain (λ _. Order-T.the-row) ∷ []) (yes, tt) (obey-records-F.clauses 𝓤 H A mem run) known-obey-records b₁ o₁ γ₁ fences (length fences) refl
               (λ κs. (r1-0, tt)) (λ κs. (SL.val Order-T.the-type Order-L.the-laws r1-0 ∷ [], tt)) (λ κs. owns-make 𝓤 H A (Order-T.the-row ∷ []) (Ises (Order-T.the-row ∷ [])) (SL.makes Order-T.the-type Order-L.the-plain 𝓤 H A, tt) (r1-0, tt) (SL.val Order-T.the-type Order-L.the-laws r1-0 ∷ [], tt) ((EL.owed Request-T.the-type Request-L.the-laws (Records r1-0) _ is1 .0), tt)) (λ κs δ₀. tt) (λ κs δ₀. id⊢ 𝓤 _)
               (λ r5 fences5. Unit {0}) (λ κs δ₀ r5 ws. factI 𝓤 (Unit {0}) (emp 𝓤) tt) (λ κs δ₀. (and-then ! (load ! (from ! (stop !)) (look ! 10 refl)) (and-then ! (load ! (from ! (stop !)) (look ! 48 refl)) (no-more !))))
@@ -211,7 +211,7 @@ module _ {M : Type 1} (𝓤 : URA M) (H : Heap 𝓤) (A : Atoms 𝓤) (W : Given
               assigns ! (addr ! (from ! (fld ! refl (hop ! (look-in ! 64 (sub ! 0 refl (whole !))) (stop !))))) (from ! (stop !)) (init ! 8 refl (tt, tt)) $
               assigns ! (agg ! (and-then ! (load ! (from ! (stop !)) (look ! 8 refl)) (and-then ! (load ! (from ! (fld ! refl (stop !))) (look-in ! 64 (sub ! 1 refl (whole !)))) (no-more !)))) (from ! (stop !)) (init ! 6 refl (tt, (tt, (record { fits = room-words .0 }, tt)))) $
               move ! (2 ∷ 3 ∷ 0 ∷ 1 ∷ []) $
-              -- obey_other
+              -- desk_orders::word_orders::obey_other
               calls-mut-shr-last ! fm u32 u8 Lent-T.the-row (plain (λ _. Waiting-T.the-row) ∷ plain (λ _. Lent-T.the-row) ∷ plain (λ _. Order-T.the-row) ∷ []) (yes, (yes, (yes, tt))) (obey-other-F.clauses 𝓤 H A mem run) known-obey-other b₀ o₀ γ₀ words (length words) refl b₂ o₂ γ₂ input (length input) refl
               (λ κs. (waiting, (lent, (r1-0, tt)))) (λ κs. (SL.val Waiting-T.the-type Waiting-L.the-laws waiting ∷ [], (SL.val Lent-T.the-type Lent-L.the-laws lent ∷ [], (SL.val Order-T.the-type Order-L.the-laws r1-0 ∷ [], tt)))) (λ κs. owns-make 𝓤 H A (Waiting-T.the-row ∷ Lent-T.the-row ∷ Order-T.the-row ∷ []) (Ises (Waiting-T.the-row ∷ Lent-T.the-row ∷ Order-T.the-row ∷ [])) (SL.makes Waiting-T.the-type Waiting-L.the-plain 𝓤 H A, (SL.makes Lent-T.the-type Lent-L.the-plain 𝓤 H A, (SL.makes Order-T.the-type Order-L.the-plain 𝓤 H A, tt))) (waiting, (lent, (r1-0, tt))) (SL.val Waiting-T.the-type Waiting-L.the-laws waiting ∷ [], (SL.val Lent-T.the-type Lent-L.the-laws lent ∷ [], (SL.val Order-T.the-type Order-L.the-laws r1-0 ∷ [], tt))) (is-waiting, (is-lent, ((EL.owed Request-T.the-type Request-L.the-laws (Other r1-0) _ is1 .0), tt)))) (λ κs δ₀ δ₁. tt) (λ κs δ₀ δ₁. id⊢ 𝓤 _)
               (λ r6 words6. Unit {0}) (λ κs δ₀ δ₁ r6 ws. factI 𝓤 (Unit {0}) (emp 𝓤) tt) (λ κs δ₀ δ₁. (and-then ! (load ! (from ! (stop !)) (look ! 6 refl)) (and-then ! (load ! (from ! (stop !)) (look ! 60 refl)) (and-then ! (load ! (from ! (stop !)) (look ! 58 refl)) (and-then ! (load ! (from ! (stop !)) (look ! 56 refl)) (and-then ! (load ! (from ! (stop !)) (look ! 46 refl)) (no-more !)))))))
@@ -235,12 +235,12 @@ module _ {M : Type 1} (𝓤 : URA M) (H : Heap 𝓤) (A : Atoms 𝓤) (W : Given
         ]))))))))))))))))))))))))))))))))
 
 module _ {M : Type 1} (𝓤 : URA M) (H : Heap 𝓤) (A : Atoms 𝓤) (W : Given 𝓤 H A) (mem : Memory → SProp 𝓤) (run : Routine → Fun 𝓤) where
-  answer-walks : (𝓣 : Tables 𝓤 H) → Triple 𝓤 (𝓣 .C #lines·next-request) (contractOf 𝓤 H A next-request-F.ended (next-request-F.clauses 𝓤 H A mem run)) → Triple 𝓤 (𝓣 .C #desk·obey-load) (contractOf 𝓤 H A obey-load-F.ended (obey-load-F.clauses 𝓤 H A mem run)) → Triple 𝓤 (𝓣 .C #desk·obey-change) (contractOf 𝓤 H A obey-change-F.ended (obey-change-F.clauses 𝓤 H A mem run)) → Triple 𝓤 (𝓣 .C #desk·obey-question) (contractOf 𝓤 H A obey-question-F.ended (obey-question-F.clauses 𝓤 H A mem run)) → Triple 𝓤 (𝓣 .C #desk·obey-records) (contractOf 𝓤 H A obey-records-F.ended (obey-records-F.clauses 𝓤 H A mem run)) → Triple 𝓤 (𝓣 .C #desk·obey-other) (contractOf 𝓤 H A obey-other-F.ended (obey-other-F.clauses 𝓤 H A mem run)) → Walks 𝓤 H A answer-F.ended stayed (WpFn 𝓤 H (𝓣 .C) (𝓣 .Λ) code.function) (answer-F.clauses 𝓤 H A mem run)
+  answer-walks : (𝓣 : Tables 𝓤 H) → Triple 𝓤 (𝓣 .C #lines·next-request) (contractOf 𝓤 H A next-request-F.ended (next-request-F.clauses 𝓤 H A mem run)) → Triple 𝓤 (𝓣 .C #desk·obey-load) (contractOf 𝓤 H A obey-load-F.ended (obey-load-F.clauses 𝓤 H A mem run)) → Triple 𝓤 (𝓣 .C #desk·obey-change) (contractOf 𝓤 H A obey-change-F.ended (obey-change-F.clauses 𝓤 H A mem run)) → Triple 𝓤 (𝓣 .C #desk·obey-question) (contractOf 𝓤 H A obey-question-F.ended (obey-question-F.clauses 𝓤 H A mem run)) → Triple 𝓤 (𝓣 .C #desk_orders·obey-records) (contractOf 𝓤 H A obey-records-F.ended (obey-records-F.clauses 𝓤 H A mem run)) → Triple 𝓤 (𝓣 .C #desk_orders·obey-other) (contractOf 𝓤 H A obey-other-F.ended (obey-other-F.clauses 𝓤 H A mem run)) → Walks 𝓤 H A answer-F.ended stayed (WpFn 𝓤 H (𝓣 .C) (𝓣 .Λ) code.function) (answer-F.clauses 𝓤 H A mem run)
   answer-walks 𝓣 known-next-request known-obey-load known-obey-change known-obey-question known-obey-records known-obey-other =
       walked 𝓤 H A answer-F.ended stayed (answer-F.clauses 𝓤 H A mem run) (WpFn 𝓤 H (𝓣 .C) (𝓣 .Λ) code.function) (λ κs. (slice-vals, (slice-vals, (slice-vals, (SL.vals Waiting-T.the-type Waiting-L.the-laws, (SL.vals Lent-T.the-type Lent-L.the-laws, tt)))))) (λ κs. (mut-slice-tells (named 0) (κs .0) u32, (mut-slice-tells (named 1) (κs .1 .0) Fence-T.the-row, (shr-slice-tells (named 2) (κs .1 .1 .0) u8, (SL.tells Waiting-T.the-type Waiting-L.the-laws, (SL.tells Lent-T.the-type Lent-L.the-laws, tt))))))
       (λ κs qs bounds a g are. via 𝓤 _ (fst∗ 𝓤 _ (emp 𝓤)) (walk 𝓤 H A W mem run (κs .0) (κs .1 .0) (κs .1 .1 .0) (qs .0) (qs .1 .0) (qs .1 .1 .0) (a .0 .ptr .0) (a .0 .ptr .1) (a .0 .name) (a .0 .now) (a .1 .0 .ptr .0) (a .1 .0 .ptr .1) (a .1 .0 .name) (a .1 .0 .now) (a .1 .1 .0 .ptr .0) (a .1 .1 .0 .ptr .1) (a .1 .1 .0 .name) (a .1 .1 .0 .now) (a .1 .1 .1 .0) (a .1 .1 .1 .1 .0) 𝓣 (fmOf 𝓤 H (W .laws) 𝓣) known-next-request known-obey-load known-obey-change known-obey-question known-obey-records known-obey-other (are .0 .0 .1) (are .1 .0 .0 .1) (are .1 .1 .0 .0 .1) (are .1 .1 .1 .0) (are .1 .1 .1 .1 .0)))
 
-answer-meets : {M : Type 1} (𝓤 : URA M) (H : Heap 𝓤) (A : Atoms 𝓤) (W : Given 𝓤 H A) (mem : Memory → SProp 𝓤) (run : Routine → Fun 𝓤) (𝓣 : Tables 𝓤 H) → Triple 𝓤 (𝓣 .C #lines·next-request) (contractOf 𝓤 H A next-request-F.ended (next-request-F.clauses 𝓤 H A mem run)) → Triple 𝓤 (𝓣 .C #desk·obey-load) (contractOf 𝓤 H A obey-load-F.ended (obey-load-F.clauses 𝓤 H A mem run)) → Triple 𝓤 (𝓣 .C #desk·obey-change) (contractOf 𝓤 H A obey-change-F.ended (obey-change-F.clauses 𝓤 H A mem run)) → Triple 𝓤 (𝓣 .C #desk·obey-question) (contractOf 𝓤 H A obey-question-F.ended (obey-question-F.clauses 𝓤 H A mem run)) → Triple 𝓤 (𝓣 .C #desk·obey-records) (contractOf 𝓤 H A obey-records-F.ended (obey-records-F.clauses 𝓤 H A mem run)) → Triple 𝓤 (𝓣 .C #desk·obey-other) (contractOf 𝓤 H A obey-other-F.ended (obey-other-F.clauses 𝓤 H A mem run)) → Meets 𝓤 H A answer-F.signature (WpFn 𝓤 H (𝓣 .C) (𝓣 .Λ) code.function) (answer-F.spec 𝓤 H A mem run)
+answer-meets : {M : Type 1} (𝓤 : URA M) (H : Heap 𝓤) (A : Atoms 𝓤) (W : Given 𝓤 H A) (mem : Memory → SProp 𝓤) (run : Routine → Fun 𝓤) (𝓣 : Tables 𝓤 H) → Triple 𝓤 (𝓣 .C #lines·next-request) (contractOf 𝓤 H A next-request-F.ended (next-request-F.clauses 𝓤 H A mem run)) → Triple 𝓤 (𝓣 .C #desk·obey-load) (contractOf 𝓤 H A obey-load-F.ended (obey-load-F.clauses 𝓤 H A mem run)) → Triple 𝓤 (𝓣 .C #desk·obey-change) (contractOf 𝓤 H A obey-change-F.ended (obey-change-F.clauses 𝓤 H A mem run)) → Triple 𝓤 (𝓣 .C #desk·obey-question) (contractOf 𝓤 H A obey-question-F.ended (obey-question-F.clauses 𝓤 H A mem run)) → Triple 𝓤 (𝓣 .C #desk_orders·obey-records) (contractOf 𝓤 H A obey-records-F.ended (obey-records-F.clauses 𝓤 H A mem run)) → Triple 𝓤 (𝓣 .C #desk_orders·obey-other) (contractOf 𝓤 H A obey-other-F.ended (obey-other-F.clauses 𝓤 H A mem run)) → Meets 𝓤 H A answer-F.signature (WpFn 𝓤 H (𝓣 .C) (𝓣 .Λ) code.function) (answer-F.spec 𝓤 H A mem run)
 answer-meets 𝓤 H A W mem run 𝓣 known-next-request known-obey-load known-obey-change known-obey-question known-obey-records known-obey-other =
     walk-meets 𝓤 H A answer-F.ended stayed W (goes-slice 𝓤 H A W 3 0 tt (plain (λ _. u32)), (goes-slice 𝓤 H A W 3 1 tt (plain (λ _. Fence-T.the-row)), (goes-dropped 𝓤 H A W 3 (shrSliceOf (2 ∷ []) tt (plain (λ _. u8))) yes (λ κs x f. refl), (goes-dropped 𝓤 H A W 3 (plain (λ _. Waiting-T.the-row)) yes (λ κs x f. refl), (goes-dropped 𝓤 H A W 3 (plain (λ _. Lent-T.the-row)) yes (λ κs x f. refl), tt)))))
     (answer-F.clauses 𝓤 H A mem run) (WpFn 𝓤 H (𝓣 .C) (𝓣 .Λ) code.function) (WpFn-mono 𝓤 H (W .laws) 𝓣 code.function) (answer-walks 𝓤 H A W mem run 𝓣 known-next-request known-obey-load known-obey-change known-obey-question known-obey-records known-obey-other)
@@ -255,5 +255,5 @@ answer-spec 𝓤 H 𝓜 𝓖 𝓡 =
     (cited 𝓤 H (tripleOf 𝓤 H (𝓖 .A) obey-load-F.signature (obey-load-F.spec 𝓤 H (𝓖 .A) (𝓜 .mem) (𝓡 .run))) 𝓜 𝓡 code.env #desk·obey-load obey-load-def.routine code.calls-desk·lending·obey-load (obey-load-thm.met 𝓤 H 𝓜 𝓖 𝓡))
     (cited 𝓤 H (tripleOf 𝓤 H (𝓖 .A) obey-change-F.signature (obey-change-F.spec 𝓤 H (𝓖 .A) (𝓜 .mem) (𝓡 .run))) 𝓜 𝓡 code.env #desk·obey-change obey-change-def.routine code.calls-desk·lending·obey-change (obey-change-thm.met 𝓤 H 𝓜 𝓖 𝓡))
     (cited 𝓤 H (tripleOf 𝓤 H (𝓖 .A) obey-question-F.signature (obey-question-F.spec 𝓤 H (𝓖 .A) (𝓜 .mem) (𝓡 .run))) 𝓜 𝓡 code.env #desk·obey-question obey-question-def.routine code.calls-desk·lending·obey-question (obey-question-thm.met 𝓤 H 𝓜 𝓖 𝓡))
-    (cited 𝓤 H (tripleOf 𝓤 H (𝓖 .A) obey-records-F.signature (obey-records-F.spec 𝓤 H (𝓖 .A) (𝓜 .mem) (𝓡 .run))) 𝓜 𝓡 code.env #desk·obey-records obey-records-def.routine code.calls-desk·records·obey-records (obey-records-thm.met 𝓤 H 𝓜 𝓖 𝓡))
-    (cited 𝓤 H (tripleOf 𝓤 H (𝓖 .A) obey-other-F.signature (obey-other-F.spec 𝓤 H (𝓖 .A) (𝓜 .mem) (𝓡 .run))) 𝓜 𝓡 code.env #desk·obey-other obey-other-def.routine code.calls-desk·memory·obey-other (obey-other-thm.met 𝓤 H 𝓜 𝓖 𝓡)))
+    (cited 𝓤 H (tripleOf 𝓤 H (𝓖 .A) obey-records-F.signature (obey-records-F.spec 𝓤 H (𝓖 .A) (𝓜 .mem) (𝓡 .run))) 𝓜 𝓡 code.env #desk_orders·obey-records obey-records-def.routine code.calls-desk-orders·records·obey-records (obey-records-thm.met 𝓤 H 𝓜 𝓖 𝓡))
+    (cited 𝓤 H (tripleOf 𝓤 H (𝓖 .A) obey-other-F.signature (obey-other-F.spec 𝓤 H (𝓖 .A) (𝓜 .mem) (𝓡 .run))) 𝓜 𝓡 code.env #desk_orders·obey-other obey-other-def.routine code.calls-desk-orders·word-orders·obey-other (obey-other-thm.met 𝓤 H 𝓜 𝓖 𝓡)))

@@ -40,11 +40,11 @@ use denote.Triple.Walked.{Stays, stay-slice, walkOf, Walks, ends-at, walked, goe
 use Rattle.desk.specs.declared.serve.Console.{Console}
 use Rattle.desk.proofs.serve.Console as Console-T
 use Rattle.desk.proofs.serve.Console.Laws as Console-L
-use Rattle.steps.specs.declared.header.Fence.{Fence}
-use Rattle.steps.proofs.header.Fence as Fence-T
-use Rattle.walks.proofs.Lend.{ref}
-use Rattle.walks.proofs.Flow.{Nearer, Nearer-wf, told, tests, while-loops, assigns-again, turn-returns, frees-all, below-word, next-le, next-nearer, empties}
-use Rattle.walks.proofs.Calls.{contractOf, calls-mut-mut-mut, calls-plain}
+use Rattle.block_read.specs.declared.fence.Fence.{Fence}
+use Rattle.block_read.proofs.fence.Fence as Fence-T
+use Rattle.mir_walks.proofs.Lend.{ref}
+use Rattle.mir_walks.proofs.Flow.{Nearer, Nearer-wf, told, tests, while-loops, assigns-again, turn-returns, frees-all, below-word, next-le, next-nearer, empties}
+use Rattle.mir_walks.proofs.Calls.{contractOf, calls-mut-mut-mut, calls-plain}
 use Rattle.desk.proofs.serve.begin as begin-F
 use Rattle.desk.proofs.serve.begin.Symbol as begin-def
 use Rattle.desk.proofs.serve.begin.Symbol.{name as #desk·begin}

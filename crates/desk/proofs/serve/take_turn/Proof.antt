@@ -38,15 +38,15 @@ use denote.Triple.Walked.{Stays, stay-slice, stay-dropped, walkOf, Walks, ends-a
 use Rattle.desk.specs.declared.serve.Console.{Console}
 use Rattle.desk.proofs.serve.Console as Console-T
 use Rattle.desk.proofs.serve.Console.Laws as Console-L
-use Rattle.steps.specs.declared.header.Fence.{Fence}
-use Rattle.steps.proofs.header.Fence as Fence-T
-use Rattle.desk.proofs.lent.Lent as Lent-T
-use Rattle.desk.proofs.lent.Lent.Laws as Lent-L
+use Rattle.block_read.specs.declared.fence.Fence.{Fence}
+use Rattle.block_read.proofs.fence.Fence as Fence-T
+use Rattle.desk_orders.proofs.lent.Lent as Lent-T
+use Rattle.desk_orders.proofs.lent.Lent.Laws as Lent-L
 use Rattle.lines.proofs.input.Waiting as Waiting-T
 use Rattle.lines.proofs.input.Waiting.Laws as Waiting-L
-use Rattle.walks.proofs.Lend.{ref}
-use Rattle.walks.proofs.Flow.{told, frees-all, empties}
-use Rattle.walks.proofs.Calls.{contractOf, calls-mut, calls-mut-mut-view, calls-plain}
+use Rattle.mir_walks.proofs.Lend.{ref}
+use Rattle.mir_walks.proofs.Flow.{told, frees-all, empties}
+use Rattle.mir_walks.proofs.Calls.{contractOf, calls-mut, calls-mut-mut-view, calls-plain}
 use Rattle.lines.proofs.input.look_on as look-on-F
 use Rattle.lines.proofs.input.look_on.Symbol as look-on-def
 use Rattle.lines.proofs.input.look_on.Symbol.{name as #lines·look-on}

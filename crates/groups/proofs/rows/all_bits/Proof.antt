@@ -1,4 +1,4 @@
--- `words::rows::all_bits`: the rows are bits where the largest row so far is one and the rows still to come are bits. Assumes nothing.
+-- `all_bits`: the rows are bits where the largest row so far is one and the rows still to come are bits. Assumes nothing.
 use mathlib.Core.Path.{_≡_, refl, _∙_, sym}
 use mathlib.Core.Bool.{_&&_}
 use mathlib.Core.Logic.{⊎-elim}

@@ -1,4 +1,4 @@
--- `words::rows::all_zero`: the words are 0 where the bits gathered so far are and the words still to come are 0. Assumes nothing.
+-- `all_zero`: the words are 0 where the bits gathered so far are and the words still to come are 0. Assumes nothing.
 use mathlib.Core.Path.{_≡_, refl, _∙_, sym}
 use mathlib.Core.Bool.{_&&_}
 use Prim.Native.Nat.{_-_, _≤_}

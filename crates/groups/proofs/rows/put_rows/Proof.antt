@@ -1,4 +1,4 @@
--- `words::rows::put_rows`: all 31 rows at a time, or as many as there is room for. Assumes nothing.
+-- `put_rows`: all 31 rows at a time, or as many as there is room for. Assumes nothing.
 use mathlib.Core.Path.{_∙_, sym}
 use native.Mathlib.Omega.{arith}
 use lib.ListN.{length}

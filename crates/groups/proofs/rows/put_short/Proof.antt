@@ -1,4 +1,4 @@
--- `words::rows::put_short`: after i turns the first i bits of the group stand in front of what `out` had. Assumes nothing.
+-- `put_short`: after i turns the first i bits of the group stand in front of what `out` had. Assumes nothing.
 use mathlib.Core.Path.{_≡_, refl, _∙_}
 use mathlib.Core.List.{_++_, append-nil}
 use Prim.Native.Nat.{_-_, _≤_}

@@ -1,4 +1,4 @@
--- `words::rows::put_whole`: three times eight rows and eight that overlap them are the 31 of the group. Assumes nothing.
+-- `put_whole`: three times eight rows and eight that overlap them are the 31 of the group. Assumes nothing.
 use borrow.Author.Needs.{needs}
 use Rattle.groups.proofs.Parts.{put-eights}
 use Rattle.groups.proofs.rows.put_whole.Statement.{statement}

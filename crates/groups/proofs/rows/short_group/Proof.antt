@@ -1,4 +1,4 @@
--- `words::rows::short_group`: after i turns the first i rows are gathered, the first of them the highest. Assumes nothing.
+-- `short_group`: after i turns the first i rows are gathered, the first of them the highest. Assumes nothing.
 use Prim.Native.Nat.{_-_}
 use native.Mathlib.Omega.{arith}
 use lib.ListN.{length}

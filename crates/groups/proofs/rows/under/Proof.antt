@@ -1,4 +1,4 @@
--- `words::rows::under`: under the mask 2 ^ k it answers the group's bit k. Assumes nothing.
+-- `under`: under the mask 2 ^ k it answers the group's bit k. Assumes nothing.
 use Rattle.groups.proofs.Group.{mask-clear, mask-set}
 use Rattle.groups.proofs.rows.under.Statement.{statement}
 use Rattle.groups.proofs.rows.under.Tie as tie

@@ -1,4 +1,4 @@
--- `words::rows::whole_group`: three times eight rows and the last seven of eight are the group. Assumes nothing.
+-- `whole_group`: three times eight rows and the last seven of eight are the group. Assumes nothing.
 use borrow.Author.Needs.{needs}
 use Rattle.groups.proofs.Parts.{groupOf-eights}
 use Rattle.groups.proofs.rows.whole_group.Statement.{statement}

@@ -40,34 +40,34 @@ use denote.Triple.Table.{entered, cited}
 use denote.Triple.Walked.{says, Stays, stay-slice, stay-dropped, walkOf, Walks, ends-at, walked, goes-slice, goes-dropped, walk-meets}
 use Rattle.answers.specs.Outcome.{Gives}
 use Rattle.index.specs.Calls.{dumpOutcome}
-use Rattle.steps.specs.Entry.{Planned, enteredIndex}
-use Rattle.steps.specs.Memory.{memoryOf}
+use Rattle.memory.specs.Inner.{Planned, enteredIndex}
+use Rattle.memory.specs.Memory.{memoryOf}
 use Rattle.index.proofs.dumping.Exits.{dump-stops, dump-planned}
 use Rattle.answers.specs.declared.Answer.{Answer}
 use Rattle.answers.proofs.Answer as Answer-T
 use Rattle.answers.proofs.Answer.Laws as Answer-L
 use Rattle.answers.specs.declared.Answer.the-variants.{Refused}
-use Rattle.steps.proofs.entry.Entry as Entry-T
-use Rattle.steps.proofs.entry.Entry.Laws as Entry-L
-use Rattle.steps.specs.declared.entry.Entry.the-variants.{Ready, Stop}
-use Rattle.steps.specs.declared.header.Fence.{Fence}
-use Rattle.steps.proofs.header.Fence as Fence-T
-use Rattle.steps.specs.declared.header.Header.{Header}
-use Rattle.steps.proofs.header.Header as Header-T
-use Rattle.steps.proofs.header.Header.Laws as Header-L
-use Rattle.steps.specs.declared.entry.Plan.{Plan}
-use Rattle.steps.proofs.entry.Plan as Plan-T
-use Rattle.steps.proofs.entry.Plan.Laws as Plan-L
+use Rattle.memory.proofs.entry.Entry as Entry-T
+use Rattle.memory.proofs.entry.Entry.Laws as Entry-L
+use Rattle.memory.specs.declared.entry.Entry.the-variants.{Ready, Stop}
+use Rattle.block_read.specs.declared.fence.Fence.{Fence}
+use Rattle.block_read.proofs.fence.Fence as Fence-T
+use Rattle.memory.specs.declared.header.Header.{Header}
+use Rattle.memory.proofs.header.Header as Header-T
+use Rattle.memory.proofs.header.Header.Laws as Header-L
 use Rattle.answers.specs.declared.Refusal.{Refusal}
 use Rattle.answers.proofs.Refusal as Refusal-T
 use Rattle.answers.proofs.Refusal.Laws as Refusal-L
-use Rattle.walks.proofs.Lend.{ref}
-use Rattle.walks.proofs.Flow.{told-enum, matches, frees-all}
-use Rattle.walks.proofs.Calls.{contractOf, calls-plain, calls-shr-shr-mut-last}
-use Rattle.steps.proofs.entry.enter_index as enter-index-F
-use Rattle.steps.proofs.entry.enter_index.Symbol as enter-index-def
-use Rattle.steps.proofs.entry.enter_index.Symbol.{name as #steps·enter-index}
-use Rattle.steps.proofs.entry.enter_index.Met as enter-index-thm
+use Rattle.blocks.specs.declared.sizes.Sizes.{Sizes}
+use Rattle.blocks.proofs.sizes.Sizes as Sizes-T
+use Rattle.blocks.proofs.sizes.Sizes.Laws as Sizes-L
+use Rattle.mir_walks.proofs.Lend.{ref}
+use Rattle.mir_walks.proofs.Flow.{told-enum, matches, frees-all}
+use Rattle.mir_walks.proofs.Calls.{contractOf, calls-plain, calls-shr-shr-mut-last}
+use Rattle.memory.proofs.entry.enter_index as enter-index-F
+use Rattle.memory.proofs.entry.enter_index.Symbol as enter-index-def
+use Rattle.memory.proofs.entry.enter_index.Symbol.{name as #memory·enter-index}
+use Rattle.memory.proofs.entry.enter_index.Met as enter-index-thm
 use Rattle.index.proofs.dumping.dump_rows as dump-rows-F
 use Rattle.index.proofs.dumping.dump_rows.Symbol as dump-rows-def
 use Rattle.index.proofs.dumping.dump_rows.Symbol.{name as #index·dump-rows}
@@ -78,7 +78,7 @@ use Rattle.index.proofs.dumping.dump.Statement as stated
 use Rattle.index.proofs.dumping.dump.Code as code
 
 -- ---- what the author says, at each place
-call-2 : (words : List ℕ) (fences : List Fence) (out : List ℕ) (header : Header) (r1-0 : Plan) (e1 : (Ready r1-0) ≡ enteredIndex (length words) (length fences) header) → Planned header r1-0 (length words) (length fences)
+call-2 : (words : List ℕ) (fences : List Fence) (out : List ℕ) (header : Header) (r1-0 : Sizes) (e1 : (Ready r1-0) ≡ enteredIndex (length words) (length fences) header) → Planned header r1-0 (length words) (length fences)
 call-2 words fences out header r1-0 e1 = dump-planned words fences header out r1-0 e1
 
 exit-2 : (words : List ℕ) (fences : List Fence) (out : List ℕ) (header : Header) (r1-0 : Refusal) (e1 : (Stop r1-0) ≡ enteredIndex (length words) (length fences) header) → Gives (dumpOutcome header (memoryOf words fences) out) (Refused r1-0) out
@@ -109,7 +109,7 @@ module _ {M : Type 1} (𝓤 : URA M) (H : Heap 𝓤) (A : Atoms 𝓤) (W : Given
       suffices ! _ (ends-at 𝓤 H A dump-F.ended stayed (dump-F.clauses 𝓤 H A mem run) W bound-of u r (tt, (tt, (out′, (tt, tt)))) (tt, (tt, (n-out′, (tt, tt))))) $ says ! e $
       nothing ! $ move ! (3 ∷ 0 ∷ []) $ join ! $ move ! (2 ∷ 0 ∷ []) $ join ! $ move ! (1 ∷ 0 ∷ []) $ join ! $ frame ! $ nothing ! $ nothing ! $ fjoin ! $ move ! (1 ∷ 0 ∷ []) $ fjoin ! $ nothing ! $ fjoin ! $ nothing ! $ fjoin ! $ frame ! $ owned ! Answer-T.the-row (Is Answer-T.the-row) (EL.makes Answer-T.the-type Answer-L.the-plain 𝓤 H A) r _ is $ done !
 
-  module _ (𝓣 : Tables 𝓤 H) (fm : FmC 𝓤 H (W .laws) (𝓣 .C)) (known-enter-index : Triple 𝓤 (𝓣 .C #steps·enter-index) (contractOf 𝓤 H A enter-index-F.ended (enter-index-F.clauses 𝓤 H A mem run))) (known-dump-rows : Triple 𝓤 (𝓣 .C #index·dump-rows) (contractOf 𝓤 H A dump-rows-F.ended (dump-rows-F.clauses 𝓤 H A mem run))) where
+  module _ (𝓣 : Tables 𝓤 H) (fm : FmC 𝓤 H (W .laws) (𝓣 .C)) (known-enter-index : Triple 𝓤 (𝓣 .C #memory·enter-index) (contractOf 𝓤 H A enter-index-F.ended (enter-index-F.clauses 𝓤 H A mem run))) (known-dump-rows : Triple 𝓤 (𝓣 .C #index·dump-rows) (contractOf 𝓤 H A dump-rows-F.ended (dump-rows-F.clauses 𝓤 H A mem run))) where
     walk : Room u32 (length words) → Room Fence-T.the-row (length fences) → Room u8 (length out) → Is Header-T.the-row header (SL.vals Header-T.the-type Header-L.the-laws header) → ent 𝓤 (onEntry 𝓤 H A dump-F.signature (κ₀, (κ₁, (κ₂, tt))) (q₀, (q₁, (q₂, tt))) args-of vals-of) (WpFn 𝓤 H (𝓣 .C) (𝓣 .Λ) code.function (sliceVal (b₀, o₀) (length words) ∷ sliceVal (b₁, o₁) (length fences) ∷ sliceVal (b₂, o₂) (length out) ∷ SL.val Header-T.the-type Header-L.the-laws header ∷ []) Post)
     walk room-words room-fences room-out is-header =
         qed W ((‵ (flft κ₀ q₀) ⊛ (‵ (flft κ₁ q₁) ⊛ (‵ (flft κ₂ q₂) ⊛ ‵ ftrue))) ∷ ‵ (owns (ShrSlice (named 0) κ₀ u32 ∷ ShrSlice (named 1) κ₁ Fence-T.the-row ∷ MutSlice (named 2) κ₂ u8 ∷ Header-T.the-row ∷ []) args-of vals-of) ∷ []) ∵ enter ! (𝓣 .C) (𝓣 .Λ) code.function (sliceVal (b₀, o₀) (length words) ∷ sliceVal (b₁, o₁) (length fences) ∷ sliceVal (b₂, o₂) (length out) ∷ SL.val Header-T.the-type Header-L.the-laws header ∷ []) _ $
@@ -119,7 +119,7 @@ module _ {M : Type 1} (𝓤 : URA M) (H : Heap 𝓤) (A : Atoms 𝓤) (W : Given
         -- [words's token; words; fences's token; fences; out's token; out; _12; …; _0; …]
         assigns ! (of-opd ! (load ! (from ! (fld ! refl (stop !))) (look-in ! 28 (sub ! 1 refl (whole !))))) (from ! (stop !)) (init ! 14 refl (tt, record { fits = (room-words .0) })) $
         assigns ! (of-opd ! (load ! (from ! (fld ! refl (stop !))) (look-in ! 26 (sub ! 1 refl (whole !))))) (from ! (stop !)) (init ! 12 refl (tt, record { fits = (room-fences .0) })) $
-        -- steps::entry::enter_index
+        -- memory::entry::enter_index
         calls-plain ! fm Entry-T.the-row (plain (λ _. usize) ∷ plain (λ _. usize) ∷ plain (λ _. Header-T.the-row) ∷ []) (yes, (yes, (yes, tt))) (enter-index-F.clauses 𝓤 H A mem run) known-enter-index
         (λ κs. (length words, (length fences, (header, tt)))) (λ κs. (vint w64 (length words) ∷ [], (vint w64 (length fences) ∷ [], (SL.val Header-T.the-type Header-L.the-laws header ∷ [], tt)))) (λ κs. owns-make 𝓤 H A (usize ∷ usize ∷ Header-T.the-row ∷ []) (Ises (usize ∷ usize ∷ Header-T.the-row ∷ [])) (uint-makes 𝓤 H A W w64, (uint-makes 𝓤 H A W w64, (SL.makes Header-T.the-type Header-L.the-plain 𝓤 H A, tt))) (length words, (length fences, (header, tt))) (vint w64 (length words) ∷ [], (vint w64 (length fences) ∷ [], (SL.val Header-T.the-type Header-L.the-laws header ∷ [], tt))) ((refl, (room-words .0)), ((refl, (room-fences .0)), (is-header, tt)))) (λ κs. tt) (λ κs. id⊢ 𝓤 _)
         (λ r1. r1 ≡ enteredIndex (length words) (length fences) header) (λ κs r1 ws. id⊢ 𝓤 _) (λ κs. (and-then ! (load ! (from ! (stop !)) (look ! 15 refl)) (and-then ! (load ! (from ! (stop !)) (look ! 13 refl)) (and-then ! (load ! (from ! (stop !)) (look ! 23 refl)) (no-more !)))))
@@ -127,12 +127,12 @@ module _ {M : Type 1} (𝓤 : URA M) (H : Heap 𝓤) (A : Atoms 𝓤) (W : Given
           | Ready r1-0 ↦ λ e1 is1.
               land ! (from ! (stop !)) (init ! 16 refl (EL.lawful Entry-T.the-type Entry-L.the-laws 𝓤 H A W tt .typed (Ready r1-0) _ is1 .0)) $ rewrite ! 16 (λ (w : Val). ‵ (fat fullShare (Entry-L.mir) l₇ 0 w)) (ap only (EL.tells Entry-T.the-type Entry-L.the-laws (Ready r1-0) _ is1)) refl $
               matches ! (load ! (from ! (vrt ! refl (fld ! refl (stop !)))) (look-tag ! 16 (whole !))) tt (λ on1.
-              assigns ! (of-opd ! (load ! (from ! (vrt ! refl (fld ! refl (stop !)))) (look-in ! 16 (in-variant ! 0 0 refl refl (whole !))))) (from ! (stop !)) (init ! 18 refl (SL.lawful Plan-T.the-type Plan-L.the-laws 𝓤 H A W .typed r1-0 (SL.vals Plan-T.the-type Plan-L.the-laws r1-0) (EL.owed Entry-T.the-type Entry-L.the-laws (Ready r1-0) _ is1 .0) .0)) $
+              assigns ! (of-opd ! (load ! (from ! (vrt ! refl (fld ! refl (stop !)))) (look-in ! 16 (in-variant ! 0 0 refl refl (whole !))))) (from ! (stop !)) (init ! 18 refl (SL.lawful Sizes-T.the-type Sizes-L.the-laws 𝓤 H A W .typed r1-0 (SL.vals Sizes-T.the-type Sizes-L.the-laws r1-0) (EL.owed Entry-T.the-type Entry-L.the-laws (Ready r1-0) _ is1 .0) .0)) $
               assigns ! (addr ! (from ! (fld ! refl (hop ! (look-in ! 24 (sub ! 0 refl (whole !))) (stop !))))) (from ! (stop !)) (init ! 8 refl (tt, tt)) $
               assigns ! (agg ! (and-then ! (load ! (from ! (stop !)) (look ! 8 refl)) (and-then ! (load ! (from ! (fld ! refl (stop !))) (look-in ! 24 (sub ! 1 refl (whole !)))) (no-more !)))) (from ! (stop !)) (init ! 6 refl (tt, (tt, (record { fits = room-out .0 }, tt)))) $
               -- dump_rows
-              calls-shr-shr-mut-last ! fm u32 Fence-T.the-row u8 Answer-T.the-row (plain (λ _. Header-T.the-row) ∷ plain (λ _. Plan-T.the-row) ∷ []) (yes, (yes, tt)) (dump-rows-F.clauses 𝓤 H A mem run) known-dump-rows b₀ o₀ γ₀ words (length words) refl b₁ o₁ γ₁ fences (length fences) refl b₂ o₂ γ₂ out (length out) refl
-              (λ κs. (header, (r1-0, tt))) (λ κs. (SL.val Header-T.the-type Header-L.the-laws header ∷ [], (SL.val Plan-T.the-type Plan-L.the-laws r1-0 ∷ [], tt))) (λ κs. owns-make 𝓤 H A (Header-T.the-row ∷ Plan-T.the-row ∷ []) (Ises (Header-T.the-row ∷ Plan-T.the-row ∷ [])) (SL.makes Header-T.the-type Header-L.the-plain 𝓤 H A, (SL.makes Plan-T.the-type Plan-L.the-plain 𝓤 H A, tt)) (header, (r1-0, tt)) (SL.val Header-T.the-type Header-L.the-laws header ∷ [], (SL.val Plan-T.the-type Plan-L.the-laws r1-0 ∷ [], tt)) (is-header, ((EL.owed Entry-T.the-type Entry-L.the-laws (Ready r1-0) _ is1 .0), tt))) (λ κs δ₀ δ₁ δ₂. tt) (λ κs δ₀ δ₁ δ₂. factI 𝓤 (Planned header r1-0 (length words) (length fences)) (emp 𝓤) (call-2 words fences out header r1-0 e1))
+              calls-shr-shr-mut-last ! fm u32 Fence-T.the-row u8 Answer-T.the-row (plain (λ _. Header-T.the-row) ∷ plain (λ _. Sizes-T.the-row) ∷ []) (yes, (yes, tt)) (dump-rows-F.clauses 𝓤 H A mem run) known-dump-rows b₀ o₀ γ₀ words (length words) refl b₁ o₁ γ₁ fences (length fences) refl b₂ o₂ γ₂ out (length out) refl
+              (λ κs. (header, (r1-0, tt))) (λ κs. (SL.val Header-T.the-type Header-L.the-laws header ∷ [], (SL.val Sizes-T.the-type Sizes-L.the-laws r1-0 ∷ [], tt))) (λ κs. owns-make 𝓤 H A (Header-T.the-row ∷ Sizes-T.the-row ∷ []) (Ises (Header-T.the-row ∷ Sizes-T.the-row ∷ [])) (SL.makes Header-T.the-type Header-L.the-plain 𝓤 H A, (SL.makes Sizes-T.the-type Sizes-L.the-plain 𝓤 H A, tt)) (header, (r1-0, tt)) (SL.val Header-T.the-type Header-L.the-laws header ∷ [], (SL.val Sizes-T.the-type Sizes-L.the-laws r1-0 ∷ [], tt)) (is-header, ((EL.owed Entry-T.the-type Entry-L.the-laws (Ready r1-0) _ is1 .0), tt))) (λ κs δ₀ δ₁ δ₂. tt) (λ κs δ₀ δ₁ δ₂. factI 𝓤 (Planned header r1-0 (length words) (length fences)) (emp 𝓤) (call-2 words fences out header r1-0 e1))
               (λ r2 out2. Gives (dumpOutcome header (memoryOf words fences) out) r2 out2) (λ κs δ₀ δ₁ δ₂ r2 ws. id⊢ 𝓤 _) (λ κs δ₀ δ₁ δ₂. (and-then ! (load ! (from ! (stop !)) (look ! 28 refl)) (and-then ! (load ! (from ! (stop !)) (look ! 26 refl)) (and-then ! (load ! (from ! (stop !)) (look ! 6 refl)) (and-then ! (load ! (from ! (stop !)) (look ! 22 refl)) (and-then ! (load ! (from ! (stop !)) (look ! 18 refl)) (no-more !)))))))
               (λ u2 r2 out2 n-out2 e2 is2.
               land-last ! (from ! (stop !)) (init ! 10 refl (EL.lawful Answer-T.the-type Answer-L.the-laws 𝓤 H A W tt .typed r2 _ is2 .0)) $ rewrite ! 10 (λ (w : Val). ‵ (fat fullShare (Answer-L.mir) l₁₀ 0 w)) (ap only (EL.tells Answer-T.the-type Answer-L.the-laws r2 _ is2)) refl $
@@ -156,12 +156,12 @@ module _ {M : Type 1} (𝓤 : URA M) (H : Heap 𝓤) (A : Atoms 𝓤) (W : Given
         ]))))))))))))))
 
 module _ {M : Type 1} (𝓤 : URA M) (H : Heap 𝓤) (A : Atoms 𝓤) (W : Given 𝓤 H A) (mem : Memory → SProp 𝓤) (run : Routine → Fun 𝓤) where
-  dump-walks : (𝓣 : Tables 𝓤 H) → Triple 𝓤 (𝓣 .C #steps·enter-index) (contractOf 𝓤 H A enter-index-F.ended (enter-index-F.clauses 𝓤 H A mem run)) → Triple 𝓤 (𝓣 .C #index·dump-rows) (contractOf 𝓤 H A dump-rows-F.ended (dump-rows-F.clauses 𝓤 H A mem run)) → Walks 𝓤 H A dump-F.ended stayed (WpFn 𝓤 H (𝓣 .C) (𝓣 .Λ) code.function) (dump-F.clauses 𝓤 H A mem run)
+  dump-walks : (𝓣 : Tables 𝓤 H) → Triple 𝓤 (𝓣 .C #memory·enter-index) (contractOf 𝓤 H A enter-index-F.ended (enter-index-F.clauses 𝓤 H A mem run)) → Triple 𝓤 (𝓣 .C #index·dump-rows) (contractOf 𝓤 H A dump-rows-F.ended (dump-rows-F.clauses 𝓤 H A mem run)) → Walks 𝓤 H A dump-F.ended stayed (WpFn 𝓤 H (𝓣 .C) (𝓣 .Λ) code.function) (dump-F.clauses 𝓤 H A mem run)
   dump-walks 𝓣 known-enter-index known-dump-rows =
       walked 𝓤 H A dump-F.ended stayed (dump-F.clauses 𝓤 H A mem run) (WpFn 𝓤 H (𝓣 .C) (𝓣 .Λ) code.function) (λ κs. (slice-vals, (slice-vals, (slice-vals, (SL.vals Header-T.the-type Header-L.the-laws, tt))))) (λ κs. (shr-slice-tells (named 0) (κs .0) u32, (shr-slice-tells (named 1) (κs .1 .0) Fence-T.the-row, (mut-slice-tells (named 2) (κs .1 .1 .0) u8, (SL.tells Header-T.the-type Header-L.the-laws, tt)))))
       (λ κs qs bounds a g are. via 𝓤 _ (fst∗ 𝓤 _ (emp 𝓤)) (walk 𝓤 H A W mem run (κs .0) (κs .1 .0) (κs .1 .1 .0) (qs .0) (qs .1 .0) (qs .1 .1 .0) (a .0 .ptr .0) (a .0 .ptr .1) (a .0 .name) (a .0 .now) (a .1 .0 .ptr .0) (a .1 .0 .ptr .1) (a .1 .0 .name) (a .1 .0 .now) (a .1 .1 .0 .ptr .0) (a .1 .1 .0 .ptr .1) (a .1 .1 .0 .name) (a .1 .1 .0 .now) (a .1 .1 .1 .0) 𝓣 (fmOf 𝓤 H (W .laws) 𝓣) known-enter-index known-dump-rows (are .0 .0 .1) (are .1 .0 .0 .1) (are .1 .1 .0 .0 .1) (are .1 .1 .1 .0)))
 
-dump-meets : {M : Type 1} (𝓤 : URA M) (H : Heap 𝓤) (A : Atoms 𝓤) (W : Given 𝓤 H A) (mem : Memory → SProp 𝓤) (run : Routine → Fun 𝓤) (𝓣 : Tables 𝓤 H) → Triple 𝓤 (𝓣 .C #steps·enter-index) (contractOf 𝓤 H A enter-index-F.ended (enter-index-F.clauses 𝓤 H A mem run)) → Triple 𝓤 (𝓣 .C #index·dump-rows) (contractOf 𝓤 H A dump-rows-F.ended (dump-rows-F.clauses 𝓤 H A mem run)) → Meets 𝓤 H A dump-F.signature (WpFn 𝓤 H (𝓣 .C) (𝓣 .Λ) code.function) (dump-F.spec 𝓤 H A mem run)
+dump-meets : {M : Type 1} (𝓤 : URA M) (H : Heap 𝓤) (A : Atoms 𝓤) (W : Given 𝓤 H A) (mem : Memory → SProp 𝓤) (run : Routine → Fun 𝓤) (𝓣 : Tables 𝓤 H) → Triple 𝓤 (𝓣 .C #memory·enter-index) (contractOf 𝓤 H A enter-index-F.ended (enter-index-F.clauses 𝓤 H A mem run)) → Triple 𝓤 (𝓣 .C #index·dump-rows) (contractOf 𝓤 H A dump-rows-F.ended (dump-rows-F.clauses 𝓤 H A mem run)) → Meets 𝓤 H A dump-F.signature (WpFn 𝓤 H (𝓣 .C) (𝓣 .Λ) code.function) (dump-F.spec 𝓤 H A mem run)
 dump-meets 𝓤 H A W mem run 𝓣 known-enter-index known-dump-rows =
     walk-meets 𝓤 H A dump-F.ended stayed W (goes-dropped 𝓤 H A W 3 (shrSliceOf (0 ∷ []) tt (plain (λ _. u32))) yes (λ κs x f. refl), (goes-dropped 𝓤 H A W 3 (shrSliceOf (1 ∷ []) tt (plain (λ _. Fence-T.the-row))) yes (λ κs x f. refl), (goes-slice 𝓤 H A W 3 2 tt (plain (λ _. u8)), (goes-dropped 𝓤 H A W 3 (plain (λ _. Header-T.the-row)) yes (λ κs x f. refl), tt))))
     (dump-F.clauses 𝓤 H A mem run) (WpFn 𝓤 H (𝓣 .C) (𝓣 .Λ) code.function) (WpFn-mono 𝓤 H (W .laws) 𝓣 code.function) (dump-walks 𝓤 H A W mem run 𝓣 known-enter-index known-dump-rows)
@@ -172,5 +172,5 @@ dump-spec 𝓤 H 𝓜 𝓖 𝓡 =
     entered 𝓤 H (tripleOf 𝓤 H (𝓖 .A) dump-F.signature (dump-F.spec 𝓤 H (𝓖 .A) (𝓜 .mem) (𝓡 .run)))
     (tables 𝓤 H 𝓜 𝓡 code.env .C) (tables 𝓤 H 𝓜 𝓡 code.env .Λ) #index·dump code.function (code.unfolded 𝓤 H 𝓜 𝓡)
     (dump-meets 𝓤 H (𝓖 .A) (givenOf 𝓤 H 𝓜 𝓖) (𝓜 .mem) (𝓡 .run) (tablesOf 𝓤 H 𝓜 (tables 𝓤 H 𝓜 𝓡 code.env))
-    (cited 𝓤 H (tripleOf 𝓤 H (𝓖 .A) enter-index-F.signature (enter-index-F.spec 𝓤 H (𝓖 .A) (𝓜 .mem) (𝓡 .run))) 𝓜 𝓡 code.env #steps·enter-index enter-index-def.routine code.calls-steps·entry·enter-index (enter-index-thm.met 𝓤 H 𝓜 𝓖 𝓡))
+    (cited 𝓤 H (tripleOf 𝓤 H (𝓖 .A) enter-index-F.signature (enter-index-F.spec 𝓤 H (𝓖 .A) (𝓜 .mem) (𝓡 .run))) 𝓜 𝓡 code.env #memory·enter-index enter-index-def.routine code.calls-memory·entry·enter-index (enter-index-thm.met 𝓤 H 𝓜 𝓖 𝓡))
     (cited 𝓤 H (tripleOf 𝓤 H (𝓖 .A) dump-rows-F.signature (dump-rows-F.spec 𝓤 H (𝓖 .A) (𝓜 .mem) (𝓡 .run))) 𝓜 𝓡 code.env #index·dump-rows dump-rows-def.routine code.calls-index·dumping·dump-rows (dump-rows-thm.met 𝓤 H 𝓜 𝓖 𝓡)))

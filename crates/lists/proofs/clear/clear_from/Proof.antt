@@ -1,13 +1,13 @@
--- `clear_from` meets its contract. The loop's invariant is `Behind`: the words that are passed are all zero. The measure is how many words are left.
+-- `clear_from` meets its contract. The loop's invariant is `ZerosFrom`: the words that are passed are all zero. The measure is how many words are left.
 use mathlib.Core.Path.{_∙_, sym}
 use native.Mathlib.Omega.{arith}
 use lib.Count.{trailing-le}
-use Rattle.lists.proofs.clear.Ends.{Behind, begins, ends, last-fits, passes, decides}
+use Rattle.lists.proofs.clear.Ends.{ZerosFrom, begins, ends, last-fits, passes, decides}
 use Rattle.lists.proofs.clear.clear_from.Statement.{statement}
 use Rattle.lists.proofs.clear.clear_from.Tie as tie
 
 abbrev Inv-loop : tie.InvT-loop
-Inv-loop list groups row end₀ i₀ end i = Behind list row end i
+Inv-loop list groups row end₀ i₀ end i = ZerosFrom list row end i
 
 abbrev μ-loop : tie.MeasureT-loop
 μ-loop list groups row end₀ i₀ end i = i

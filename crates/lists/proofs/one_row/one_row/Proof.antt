@@ -1,14 +1,15 @@
--- `one_row` packs one row: the group of the row ends the zeros before it, which are pending, and the zeros behind it, if there are any, come last.
+-- `one_row` packs one row: the group of the row ends the zeros before it, which are pending, and the zeros after it, if there are any, come last.
 use mathlib.Core.Path.{refl, sym}
 use mathlib.Core.List.{List, [], _∷_, append-nil}
 use Prim.Native.Nat.{ℕ, _-_, _/_, _%_, _≤_}
 use native.Mathlib.Omega.{arith}
 use lib.ListN.{length, length-replicate}
 use borrow.Author.Needs.{needs}
-use Rattle.words.specs.Words.{uniform, encode}
+use Rattle.words.specs.Words.{encode}
+use Rattle.words.specs.Inner.{uniform}
 use Rattle.groups.proofs.Table.{mask-at}
 use Rattle.words.proofs.Writing.{Writing, step-fits, step-on, last-fits}
-use Rattle.lists.specs.OneRow.{oneRow}
+use Rattle.lists.specs.Inner.{oneRow}
 use Rattle.lists.proofs.OneRow.{few-oneRow, literal-on, packs}
 use Rattle.lists.proofs.one_row.one_row.Statement.{statement}
 use Rattle.lists.proofs.one_row.one_row.Tie as tie
@@ -20,15 +21,15 @@ blank = 0 ∷ 0 ∷ 0 ∷ []
 room : (c : tie.Start) → length (encode (oneRow (c .args .groups) (c .args .row))) ≤ length blank
 room c = few-oneRow (c .args .groups) (c .args .row)
 
--- how many groups come behind the row
-abbrev behind : tie.Start → ℕ
-behind c = c .args .groups - c .args .row / 31 - 1
+-- how many groups come after the row
+abbrev after : tie.Start → ℕ
+after c = c .args .groups - c .args .row / 31 - 1
 
-sub-behind : tie.Need-sub-behind
-sub-behind c = search needs
+sub-after : tie.Need-sub-after
+sub-after c = search needs
 
-sub-behind-2 : tie.Need-sub-behind-2
-sub-behind-2 c = search needs
+sub-after-2 : tie.Need-sub-after-2
+sub-after-2 c = search needs
 
 cast-place : tie.Need-cast-place
 cast-place c = search needs
@@ -51,7 +52,7 @@ store-requires c κs = search needs
 -- the group of the row is stored
 literal-stored : (c : tie.After-store)
     → let start = c .before .before .before in
-    Writing (oneRow (start .args .groups) (start .args .row)) (uniform 0 (behind start)) blank (c .store .last .0) (c .store .result)
+    Writing (oneRow (start .args .groups) (start .args .row)) (uniform 0 (after start)) blank (c .store .last .0) (c .store .result)
     (c .before .before .next-step .result .pending)
 literal-stored c =
     let start = c .before .before .before in
@@ -90,12 +91,12 @@ store-requires-2 : tie.Need-store-requires-2
 store-requires-2 c κs =
     let start = c .before .before .before .before .before .before .before in
     let step = c .before .next-step2 in
-    let zeros = uniform 0 (behind start) in (
+    let zeros = uniform 0 (after start) in (
       step .ensures .few,
       step-fits (literal-stored (c .before .before .before .before)) (room start) zeros [] (step .result) (sym (append-nil zeros)) (step .ensures),
     )
 
--- the zeros behind it are stored
+-- the zeros after it are stored
 zeros-stored : (c : tie.After-store2)
     → let start = c .before .before .before .before .before .before .before .before in
     Writing (oneRow (start .args .groups) (start .args .row)) [] blank (c .store2 .last .0) (c .store2 .result)
@@ -103,7 +104,7 @@ zeros-stored : (c : tie.After-store2)
 zeros-stored c =
     let start = c .before .before .before .before .before .before .before .before in
     let step = c .before .before .next-step2 in
-    let zeros = uniform 0 (behind start) in
+    let zeros = uniform 0 (after start) in
     rw (c .store2 .ensures .0, c .store2 .ensures .1)
     (step-on (literal-stored (c .before .before .before .before .before)) (room start) zeros [] (step .result) (sym (append-nil zeros)) (step .ensures))
 
@@ -131,8 +132,8 @@ pub one-row-spec : {M : Type 1} → statement M
 one-row-spec =
     tie.close
     (tie.spec
-    sub-behind
-    sub-behind-2
+    sub-after
+    sub-after-2
     cast-place
     mul-next-step
     array-read-next-step

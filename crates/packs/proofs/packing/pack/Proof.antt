@@ -2,8 +2,10 @@
 use mathlib.Core.Path.{_∙_, sym}
 use native.Mathlib.Omega.{arith}
 use borrow.Author.Tests.{not-true, not-false}
+use Rattle.words.specs.Words.{packed}
 use Rattle.words.proofs.Size.{packed-length}
-use Rattle.packs.proofs.packing.Exits.{bad-value, full, done}
+use Rattle.answers.proofs.Given.{fits}
+use Rattle.packs.proofs.packing.Exits.{bad-value, full, in-order}
 use borrow.Author.Needs.{needs}
 use Rattle.packs.proofs.packing.pack.Statement.{statement}
 use Rattle.packs.proofs.packing.pack.Tie as tie
@@ -54,13 +56,11 @@ returns-4 c =
     let a = c .before .before .before .before .before .before .before .before .before .before .before .args in
     let k = c .before .before .before .before .before .before .before .before .all-bits in
     let p = c .before .before .pack-into in
-    done (a .rows .now) (a .out .now)
-    (record {
-      bits = sym (k .ensures) ∙ not-false (k .result) (c .before .before .before .before .before .before .before .if1 .left);
-      few = c .before .before .before .before .before .before .if2 .left;
-      room = omega (arith, packed-length (a .rows .now), c .before .before .before .before .before .groups-for .ensures, c .before .before .before .before .if3 .left);
-    })
-    (p .result) (p .last .1 .0) (p .ensures .0) (p .ensures .1)
+    let bits = sym (k .ensures) ∙ not-false (k .result) (c .before .before .before .before .before .before .before .if1 .left) in
+    rw (in-order (a .rows .now) (a .out .now) bits (c .before .before .before .before .before .before .if2 .left))
+    (fits (packed (a .rows .now)) (a .out .now)
+    (omega (arith, packed-length (a .rows .now), c .before .before .before .before .before .groups-for .ensures, c .before .before .before .before .if3 .left))
+    (p .result) (p .last .1 .0) (p .ensures .0) (p .ensures .1))
 
 pub pack-spec : {M : Type 1} → statement M
 pack-spec =

@@ -2,6 +2,7 @@
 use mathlib.Core.Path.{_∙_, sym}
 use lib.Seq.{length-take-le}
 use borrow.Author.Needs.{needs}
+use Rattle.packs.proofs.Calls.{CanUnpack}
 use Rattle.packs.proofs.unpacking.Exits.{full, small, bad-list, passes, has-rows, done}
 use Rattle.packs.proofs.unpacking.unpack.Statement.{statement}
 use Rattle.packs.proofs.unpacking.unpack.Tie as tie
@@ -31,6 +32,14 @@ returns-3 c =
     let checked = sym (c .enum-told2 .given .1) ∙ c .before .before .check .ensures in
     bad-list (a .list .now) (a .length) (a .out .now) (c .before .before .before .before .if1 .left) (c .before .before .before .if2 .left) checked
 
+-- the list is whole, and the checks before it passed
+can : (c : tie.After-enum-told)
+    → let a = c .before .before .before .before .before .before .before .args in CanUnpack (a .list .now) (a .length) (a .out .now)
+can c =
+    let a = c .before .before .before .before .before .before .before .args in
+    passes (a .list .now) (a .length) (a .out .now) (c .before .before .before .before .if1 .left) (c .before .before .before .if2 .left)
+    (sym (c .enum-told .given .1) ∙ c .before .before .check .ensures)
+
 slice-relend-prefix-unpack-into : tie.Need-slice-relend-prefix-unpack-into
 slice-relend-prefix-unpack-into c = search needs
 
@@ -42,11 +51,7 @@ slice-aggregate-unpack-into c =
 unpack-into-requires : tie.Need-unpack-into-requires
 unpack-into-requires c κs =
     let a = c .before .before .before .before .before .before .before .before .args in
-    let few = c .before .before .before .before .before .if1 .left in
-    let room = c .before .before .before .before .if2 .left in
-    let whole = c .before .enum-told .given in
-    let checked = sym (whole .1) ∙ c .before .before .before .check .ensures in
-    has-rows (a .list .now) (a .length) (a .out .now) (passes (a .list .now) (a .length) (a .out .now) few room checked)
+    has-rows (a .list .now) (a .length) (a .out .now) (can (c .before))
 
 same-length : tie.Need-same-length
 same-length c = search needs
@@ -54,12 +59,8 @@ same-length c = search needs
 returns-4 : tie.Need-returns-4
 returns-4 c =
     let a = c .before .before .before .before .before .before .before .before .before .before .before .args in
-    let few = c .before .before .before .before .before .before .before .before .if1 .left in
-    let room = c .before .before .before .before .before .before .before .if2 .left in
-    let whole = c .before .before .before .before .enum-told .given in
-    let checked = sym (whole .1) ∙ c .before .before .before .before .before .before .check .ensures in
-    let can = passes (a .list .now) (a .length) (a .out .now) few room checked in
-    done (a .list .now) (a .length) (a .out .now) can (c .before .before .unpack-into .last .1 .0) (c .before .before .unpack-into .ensures)
+    let rows = c .before .before .unpack-into in
+    done (a .list .now) (a .length) (a .out .now) (can (c .before .before .before .before)) (rows .last .1 .0) (rows .ensures)
 
 pub unpack-spec : {M : Type 1} → statement M
 unpack-spec =

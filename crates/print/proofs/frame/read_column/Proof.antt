@@ -7,7 +7,7 @@ use lib.Seq.{paste, paste-zero}
 use borrow.Author.Needs.{needs}
 use Rattle.groups.proofs.Sets.{copies, copied}
 use Rattle.print.specs.Frame.{columnIn}
-use Rattle.print.proofs.Digits.{length-column, byte-at}
+use Rattle.print.proofs.Frames.{length-column, byte-at}
 use Rattle.print.proofs.frame.read_column.Statement.{statement}
 use Rattle.print.proofs.frame.read_column.Tie as tie
 
@@ -20,33 +20,6 @@ abbrev μ-loop : tie.MeasureT-loop
 
 loop-holds : tie.Need-loop-holds Inv-loop μ-loop
 loop-holds c = (omega arith, refl, c .before .before .pre, refl, paste-zero (c .before .before .args .column .now) 0 (columnIn (c .before .before .args .digits .now)))
-
-mul-byte-of : tie.Need-mul-byte-of Inv-loop μ-loop
-mul-byte-of c = omega arith
-
-shared-slice-read-byte-of : tie.Need-shared-slice-read-byte-of Inv-loop μ-loop
-shared-slice-read-byte-of c = omega arith
-
-mul-byte-of-2 : tie.Need-mul-byte-of-2 Inv-loop μ-loop
-mul-byte-of-2 c = omega arith
-
-add-byte-of : tie.Need-add-byte-of Inv-loop μ-loop
-add-byte-of c = omega arith
-
-shared-slice-read-byte-of-2 : tie.Need-shared-slice-read-byte-of-2 Inv-loop μ-loop
-shared-slice-read-byte-of-2 c = omega arith
-
-byte-of-requires : tie.Need-byte-of-requires Inv-loop μ-loop
-byte-of-requires c κs = search needs
-
-slice-write-column : tie.Need-slice-write-column Inv-loop μ-loop
-slice-write-column c = omega arith
-
-add-row : tie.Need-add-row Inv-loop μ-loop
-add-row c = omega arith
-
-loop-less : tie.Need-loop-less Inv-loop μ-loop
-loop-less c = omega arith
 
 loop-again : tie.Need-loop-again Inv-loop μ-loop
 loop-again c =
@@ -81,15 +54,15 @@ read-column-spec =
     Inv-loop
     μ-loop
     loop-holds
-    mul-byte-of
-    shared-slice-read-byte-of
-    mul-byte-of-2
-    add-byte-of
-    shared-slice-read-byte-of-2
-    byte-of-requires
-    slice-write-column
-    add-row
-    loop-less
+    (λ c. omega arith)
+    (λ c. omega arith)
+    (λ c. omega arith)
+    (λ c. omega arith)
+    (λ c. omega arith)
+    (λ c κs. search needs)
+    (λ c. omega arith)
+    (λ c. omega arith)
+    (λ c. omega arith)
     loop-again
     same-length
     returns)

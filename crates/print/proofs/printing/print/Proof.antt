@@ -3,26 +3,17 @@ use mathlib.Core.Path.{sym}
 use native.Mathlib.Omega.{arith}
 use lib.Seq.{length-take-le}
 use Rattle.print.specs.Frame.{lineIn}
-use Rattle.print.proofs.Digits.{line-short}
+use Rattle.print.proofs.Frames.{line-short}
 use Rattle.print.proofs.printing.Exits.{line-printed}
 use borrow.Author.Needs.{needs}
 use Rattle.print.proofs.printing.print.Statement.{statement}
 use Rattle.print.proofs.printing.print.Tie as tie
-
-line-length-requires : tie.Need-line-length-requires
-line-length-requires c κs = search needs
 
 slice-aggregate-put-line : tie.Need-slice-aggregate-put-line
 slice-aggregate-put-line c =
     let input = c .before .before .before .before .args .input .now in
     let line = c .before .line-length in
     sym (length-take-le (line .result) input (omega (arith, line .ensures, line-short input)))
-
-put-line-requires : tie.Need-put-line-requires
-put-line-requires c κs = search needs
-
-same-length : tie.Need-same-length
-same-length c = search needs
 
 returns : tie.Need-returns
 unfolding lineIn
@@ -35,4 +26,9 @@ returns c =
 pub print-spec : {M : Type 1} → statement M
 print-spec =
     tie.close
-    (tie.spec line-length-requires slice-aggregate-put-line put-line-requires same-length returns)
+    (tie.spec
+    (λ c κs. search needs)
+    slice-aggregate-put-line
+    (λ c κs. search needs)
+    (λ c. search needs)
+    returns)

@@ -8,9 +8,6 @@ use Rattle.print.proofs.Lines.{refused-line, done-line}
 use Rattle.print.proofs.printing.put_answer.Statement.{statement}
 use Rattle.print.proofs.printing.put_answer.Tie as tie
 
-number-of-requires : tie.Need-number-of-requires
-number-of-requires c κs = search needs
-
 put-refusal-requires : tie.Need-put-refusal-requires
 put-refusal-requires c κs =
     let start = c .before .before .before .before .before in
@@ -18,18 +15,12 @@ put-refusal-requires c κs =
     rw (refused-line (start .args .value) (paper (start .args .answer)) (start .args .list .now) (number .result) (number .ensures) (c .before .if1 .taken))
     at (start .pre .1)
 
-same-length : tie.Need-same-length
-same-length c = search needs
-
 returns : tie.Need-returns
 returns c =
     let start = c .before .before .before .before .before .before .before .before in
     let number = c .before .before .before .before .before .number-of in
     rw (refused-line (start .args .value) (paper (start .args .answer)) (start .args .list .now) (number .result) (number .ensures) (c .before .before .before .before .if1 .taken))
     (c .before .before .put-refusal .ensures)
-
-count-of-requires : tie.Need-count-of-requires
-count-of-requires c κs = search needs
 
 slice-aggregate-put-value : tie.Need-slice-aggregate-put-value
 slice-aggregate-put-value c =
@@ -45,9 +36,6 @@ put-value-requires c κs =
     rw (done-line (start .args .value) (paper (start .args .answer)) (start .args .list .now) (number .result) (number .ensures) (c .before .before .before .if1 .left) (count .result) (count .ensures))
     at (start .pre .1)
 
-same-length-2 : tie.Need-same-length-2
-same-length-2 c = search needs
-
 returns-2 : tie.Need-returns-2
 returns-2 c =
     let start = c .before .before .before .before .before .before .before .before .before .before in
@@ -60,12 +48,12 @@ pub put-answer-spec : {M : Type 1} → statement M
 put-answer-spec =
     tie.close
     (tie.spec
-    number-of-requires
+    (λ c κs. search needs)
     put-refusal-requires
-    same-length
+    (λ c. search needs)
     returns
-    count-of-requires
+    (λ c κs. search needs)
     slice-aggregate-put-value
     put-value-requires
-    same-length-2
+    (λ c. search needs)
     returns-2)

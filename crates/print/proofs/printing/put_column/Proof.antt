@@ -42,26 +42,26 @@ use denote.Triple.Table.{entered, cited}
 use denote.Triple.Walked.{says, needs, Stays, stay-slice, stay-dropped, walkOf, Walks, ends-at, walked, goes-slice, goes-dropped, walk-meets}
 use lib.Seq.{sets}
 use Rattle.answers.specs.Numbers.{paper}
-use Rattle.steps.specs.Memory.{memoryOf}
+use Rattle.memory.specs.Memory.{memoryOf}
 use Rattle.print.specs.Printed.{valueLines, columnLines, cleared}
 use Rattle.print.proofs.printing.Exits.{refusal-fits, refusal-printed, lists-fit, lists-printed}
-use Rattle.steps.specs.Outcomes.{Leaves}
+use Rattle.memory.specs.Outcomes.{Leaves}
 use Rattle.index.specs.Calls.{loadAfter}
 use Rattle.print.specs.Text.{refusalLine}
 use Rattle.answers.proofs.Answer as Answer-T
 use Rattle.answers.proofs.Answer.Laws as Answer-L
-use Rattle.steps.specs.declared.header.Changed.{Changed}
-use Rattle.steps.proofs.header.Changed as Changed-T
-use Rattle.steps.proofs.header.Changed.Laws as Changed-L
-use Rattle.steps.specs.declared.header.Fence.{Fence}
-use Rattle.steps.proofs.header.Fence as Fence-T
-use Rattle.steps.proofs.header.Fence.Laws as Fence-L
-use Rattle.steps.proofs.header.Header as Header-T
-use Rattle.steps.proofs.header.Header.Laws as Header-L
-use Rattle.walks.proofs.Lend.{ref}
-use Rattle.walks.proofs.Flow.{told, tests, frees-all, big-lit}
-use Rattle.walks.proofs.Local.{repeats, lend-array, back-array}
-use Rattle.walks.proofs.Calls.{contractOf, calls-mut, calls-mut-mut-shr, calls-plain, calls-view-view-mut-mut}
+use Rattle.memory.specs.declared.header.Changed.{Changed}
+use Rattle.memory.proofs.header.Changed as Changed-T
+use Rattle.memory.proofs.header.Changed.Laws as Changed-L
+use Rattle.block_read.specs.declared.fence.Fence.{Fence}
+use Rattle.block_read.proofs.fence.Fence as Fence-T
+use Rattle.block_read.proofs.fence.Fence.Laws as Fence-L
+use Rattle.memory.proofs.header.Header as Header-T
+use Rattle.memory.proofs.header.Header.Laws as Header-L
+use Rattle.mir_walks.proofs.Lend.{ref}
+use Rattle.mir_walks.proofs.Flow.{told, tests, frees-all, big-lit}
+use Rattle.mir_walks.proofs.Local.{repeats, lend-array, back-array}
+use Rattle.mir_walks.proofs.Calls.{contractOf, calls-mut, calls-mut-mut-shr, calls-plain, calls-view-view-mut-mut}
 use Rattle.index.proofs.loading.load as load-F
 use Rattle.index.proofs.loading.load.Symbol as load-def
 use Rattle.index.proofs.loading.load.Symbol.{name as #index·load}

@@ -7,7 +7,7 @@ use lib.ListN.{length, take, drop, replicate, length-drop, length-append}
 use lib.Seq.{length-take-le}
 use Rattle.groups.proofs.Sets.{front}
 use Rattle.print.specs.Frame.{columnIn}
-use Rattle.print.proofs.Digits.{frame-length, rest-of-line}
+use Rattle.print.proofs.Frames.{frame-length, rest-of-line}
 use Rattle.print.proofs.Lines.{frame-printed}
 use borrow.Author.Needs.{needs}
 use Rattle.print.proofs.printing.put_frame.Statement.{statement}
@@ -37,12 +37,6 @@ sub-read-column c = frame-length (c .before .before .args .line .now) (c .before
 part-read-column-start : tie.Need-part-read-column-start
 part-read-column-start c = omega (arith, frame-length (c .before .before .args .line .now) (c .before .before .pre .0) .0)
 
-part-read-column-end : tie.Need-part-read-column-end
-part-read-column-end c = search needs
-
-slice-aggregate-read-column : tie.Need-slice-aggregate-read-column
-slice-aggregate-read-column c = search needs
-
 read-column-requires : tie.Need-read-column-requires
 read-column-requires c κs =
     let start = c .before .before .before .before in
@@ -69,12 +63,6 @@ slice-aggregate-put-column c =
     let read = c .before .before .before .before .before .before in
     sym (length-take-le (read .read-column .result) (read .read-column .last .1 .0) (column-fits read))
 
-put-column-requires : tie.Need-put-column-requires
-put-column-requires c κs = search needs
-
-same-length : tie.Need-same-length
-same-length c = search needs
-
 returns : tie.Need-returns
 returns c =
     let start = c .before .before .before .before .before .before .before .before .before .before .before .before .before .before .before in
@@ -95,8 +83,8 @@ put-frame-spec =
     (tie.spec
     sub-read-column
     part-read-column-start
-    part-read-column-end
-    slice-aggregate-read-column
+    (λ c. search needs)
+    (λ c. search needs)
     read-column-requires
     number-at-requires
     number-at-requires-2
@@ -104,6 +92,6 @@ put-frame-spec =
     number-at-requires-4
     array-share-prefix-column
     slice-aggregate-put-column
-    put-column-requires
-    same-length
+    (λ c κs. search needs)
+    (λ c. search needs)
     returns)

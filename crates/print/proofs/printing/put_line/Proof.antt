@@ -8,17 +8,8 @@ use borrow.Author.Needs.{needs}
 use Rattle.print.proofs.printing.put_line.Statement.{statement}
 use Rattle.print.proofs.printing.put_line.Tie as tie
 
-is-frame-requires : tie.Need-is-frame-requires
-is-frame-requires c κs = search needs
-
-number-requires : tie.Need-number-requires
-number-requires c κs = search needs
-
 put-refusal-requires : tie.Need-put-refusal-requires
 put-refusal-requires c κs = omega (arith, length-refusal (c .number .result), c .before .before .before .before .before .before .pre)
-
-same-length : tie.Need-same-length
-same-length c = search needs
 
 returns : tie.Need-returns
 returns c =
@@ -34,21 +25,15 @@ put-frame-requires c κs =
     let frame = c .before .before .is-frame in
     (sym (frame .ensures) ∙ not-false (frame .result) (c .before .if1 .left), c .before .before .before .before .before .pre)
 
-same-length-2 : tie.Need-same-length-2
-same-length-2 c = search needs
-
-returns-2 : tie.Need-returns-2
-returns-2 c = search needs
-
 pub put-line-spec : {M : Type 1} → statement M
 put-line-spec =
     tie.close
     (tie.spec
-    is-frame-requires
-    number-requires
+    (λ c κs. search needs)
+    (λ c κs. search needs)
     put-refusal-requires
-    same-length
+    (λ c. search needs)
     returns
     put-frame-requires
-    same-length-2
-    returns-2)
+    (λ c. search needs)
+    (λ c. search needs))

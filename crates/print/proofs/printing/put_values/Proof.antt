@@ -42,22 +42,22 @@ use denote.Triple.Table.{entered, cited}
 use denote.Triple.Walked.{says, needs, Stays, stay-slice, stay-dropped, walkOf, Walks, ends-at, walked, goes-slice, goes-dropped, walk-meets}
 use lib.Seq.{sets}
 use Rattle.answers.specs.Numbers.{paper}
-use Rattle.steps.specs.Memory.{memoryOf}
+use Rattle.memory.specs.Memory.{memoryOf}
 use Rattle.print.specs.Printed.{answerLine, valueLines}
-use Rattle.print.proofs.printing.Turns.{turn-fits, turn-adds}
+use Rattle.print.proofs.printing.Rounds.{turn-fits, turn-adds}
 use Rattle.answers.specs.Outcome.{Gives}
 use Rattle.index.specs.Calls.{queryOutcome}
 use Rattle.answers.specs.declared.Answer.{Answer}
 use Rattle.answers.proofs.Answer as Answer-T
 use Rattle.answers.proofs.Answer.Laws as Answer-L
-use Rattle.steps.specs.declared.header.Fence.{Fence}
-use Rattle.steps.proofs.header.Fence as Fence-T
-use Rattle.steps.specs.declared.header.Header.{Header}
-use Rattle.steps.proofs.header.Header as Header-T
-use Rattle.steps.proofs.header.Header.Laws as Header-L
-use Rattle.walks.proofs.Lend.{ref}
-use Rattle.walks.proofs.Flow.{Nearer, Nearer-wf, told-enum, while-loops, assigns-again, frees-all, below-word, next-le, next-nearer}
-use Rattle.walks.proofs.Calls.{contractOf, calls-shr-shr-mut, calls-view-mut}
+use Rattle.block_read.specs.declared.fence.Fence.{Fence}
+use Rattle.block_read.proofs.fence.Fence as Fence-T
+use Rattle.memory.specs.declared.header.Header.{Header}
+use Rattle.memory.proofs.header.Header as Header-T
+use Rattle.memory.proofs.header.Header.Laws as Header-L
+use Rattle.mir_walks.proofs.Lend.{ref}
+use Rattle.mir_walks.proofs.Flow.{Nearer, Nearer-wf, told-enum, while-loops, assigns-again, frees-all, below-word, next-le, next-nearer}
+use Rattle.mir_walks.proofs.Calls.{contractOf, calls-shr-shr-mut, calls-view-mut}
 use Rattle.index.proofs.answering.query as query-F
 use Rattle.index.proofs.answering.query.Symbol as query-def
 use Rattle.index.proofs.answering.query.Symbol.{name as #index·query}

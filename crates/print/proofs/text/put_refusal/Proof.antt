@@ -1,10 +1,11 @@
--- `put_refusal` writes the mark, the number and a newline, each behind the one before.
+-- `put_refusal` writes the mark, the number and a newline, each after the one before.
 use mathlib.Core.Path.{_≡_, ap, _∙_}
 use native.Mathlib.Omega.{arith}
 use lib.ListN.{length}
 use lib.Seq.{length-sets}
 use borrow.Author.Needs.{needs}
-use Rattle.print.specs.Text.{hexDigits, refusalLine}
+use Rattle.digits.specs.Digits.{hexDigits}
+use Rattle.print.specs.Text.{refusalLine}
 use Rattle.print.proofs.Stores.{line-put, length-refusal}
 use Rattle.print.proofs.text.put_refusal.Statement.{statement}
 use Rattle.print.proofs.text.put_refusal.Tie as tie

@@ -1,10 +1,11 @@
--- `put_value` writes the value, its words and a newline, each behind the one before.
+-- `put_value` writes the value, its words and a newline, each after the one before.
 use mathlib.Core.Path.{_≡_, ap, _∙_}
 use native.Mathlib.Omega.{arith}
 use lib.ListN.{length}
 use lib.Seq.{length-sets}
 use borrow.Author.Needs.{needs}
-use Rattle.print.specs.Text.{hexDigits, hexWords, valueLine}
+use Rattle.digits.specs.Digits.{hexDigits}
+use Rattle.print.specs.Text.{hexWords, valueLine}
 use Rattle.print.proofs.Stores.{line-put, length-words, length-value}
 use Rattle.print.proofs.text.put_value.Statement.{statement}
 use Rattle.print.proofs.text.put_value.Tie as tie

@@ -23,20 +23,8 @@ abbrev μ-loop : tie.MeasureT-loop
 loop-holds : tie.Need-loop-holds Inv-loop μ-loop
 loop-holds c = (omega arith, omega arith, refl, omega (arith, length-words (c .before .before .args .list .now), c .before .before .pre), refl)
 
-mul-put-digits : tie.Need-mul-put-digits Inv-loop μ-loop
-mul-put-digits c = omega arith
-
-shared-slice-read-put-digits : tie.Need-shared-slice-read-put-digits Inv-loop μ-loop
-shared-slice-read-put-digits c = omega arith
-
 put-digits-requires : tie.Need-put-digits-requires Inv-loop μ-loop
 put-digits-requires c κs = (omega arith, omega arith)
-
-add-i : tie.Need-add-i Inv-loop μ-loop
-add-i c = omega arith
-
-loop-less : tie.Need-loop-less Inv-loop μ-loop
-loop-less c = omega arith
 
 loop-again : tie.Need-loop-again Inv-loop μ-loop
 loop-again c =
@@ -67,11 +55,11 @@ put-words-spec =
     Inv-loop
     μ-loop
     loop-holds
-    mul-put-digits
-    shared-slice-read-put-digits
+    (λ c. omega arith)
+    (λ c. omega arith)
     put-digits-requires
-    add-i
-    loop-less
+    (λ c. omega arith)
+    (λ c. omega arith)
     loop-again
     same-length
     returns)

@@ -1,10 +1,7 @@
 -- `finish` writes the word of the run that is pending, if there is one.
-use mathlib.Core.Path.{_≡_, refl}
+use mathlib.Core.Path.{refl}
 use native.Mathlib.Omega.{arith}
 use native.Mathlib.Nat.{add-zero}
-use lib.ListN.{length}
-use Rattle.words.specs.Words.{Run.fill, wordOf}
-use Rattle.words.specs.Writer.{lastWords}
 use Rattle.words.proofs.Runs.{last-run}
 use borrow.Author.Needs.{needs}
 use Rattle.words.proofs.writer.finish.Statement.{statement}

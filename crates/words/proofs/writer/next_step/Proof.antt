@@ -1,5 +1,5 @@
 -- `next_step` takes in a group as often as it comes: a uniform one as `step_fill` does, any other, which comes once, as `step_literal` does.
-use mathlib.Core.Path.{_≡_, refl}
+use mathlib.Core.Path.{_≡_}
 use native.Mathlib.Omega.{arith}
 use borrow.Author.Needs.{needs}
 use Rattle.words.proofs.writer.next_step.Statement.{statement}

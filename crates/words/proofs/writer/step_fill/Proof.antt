@@ -1,5 +1,5 @@
 -- `step_fill` takes in uniform groups: after no run, after a run of their bit, which they lengthen, and after one of the other bit, which they end.
-use mathlib.Core.Path.{_≡_, refl, ap, _∙_}
+use mathlib.Core.Path.{refl, ap, _∙_}
 use native.Mathlib.Omega.{arith}
 use lib.ListN.{length-replicate}
 use borrow.Author.Needs.{needs}

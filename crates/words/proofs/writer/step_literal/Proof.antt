@@ -1,6 +1,5 @@
 -- `step_literal` takes in a group that is not uniform: after no run, and after one, which it ends.
-use mathlib.Core.Path.{_≡_, refl, _∙_}
-use mathlib.Core.List.{List, _∷_, []}
+use mathlib.Core.Path.{refl, _∙_}
 use native.Mathlib.Omega.{arith}
 use borrow.Author.Needs.{needs}
 use Rattle.words.proofs.Runs.{ends-run, literal-word}

@@ -1,3 +1,0 @@
--- What the proofs of Audit's part for one value use: each way out of the check of its lists, and its rows as plain groups.
-mod Exits
-mod Turned

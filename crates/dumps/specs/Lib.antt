@@ -1,2 +1,0 @@
-pub mod Dump
-pub mod Dumping

@@ -1,0 +1,5 @@
+pub mod Every
+pub mod Taken
+pub mod Taking
+pub mod Tests
+pub mod Visits

@@ -1,2 +1,0 @@
--- What the walks of Audit's loop use: one turn over the values.
-mod Turns

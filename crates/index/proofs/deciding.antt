@@ -1,0 +1,2 @@
+-- What the walks that decide use: each way out.
+pub mod Exits

@@ -1,4 +1,0 @@
--- What the proofs over plain groups use: the loops, and a list's groups one word after the other.
-mod Loops
-mod Turning
-mod Word

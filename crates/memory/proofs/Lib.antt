@@ -1,0 +1,5 @@
+pub mod Deciding
+pub mod FenceRecords
+pub mod Headers
+pub mod Places
+pub mod RowLaws

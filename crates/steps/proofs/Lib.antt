@@ -1,4 +1,0 @@
-pub mod FenceRecords
-pub mod Headers
-pub mod Plans
-pub mod RowLaws

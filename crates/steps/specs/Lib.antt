@@ -1,6 +1,0 @@
-pub mod Plans
-pub mod Entry
-pub mod Fences
-pub mod Memory
-pub mod Outcomes
-pub mod Reading
