@@ -1,10 +1,12 @@
 // Document 01, "Numbers a caller can get back": the reasons of a refusal, and the answer of every call
 // that gives one number back. Which number stands for which case is said in specs/Numbers.antt.
+#![tactic(auto)]
+
 ghost use Rattle.std.specs.Prelude.{◌≡◌};
 ghost use Rattle.answers.specs.Numbers.{number_of};
 
 // Why a call refused, in the order of document 01's numbers 1 to 10.
-#[derive(Drop)]
+#[derive(Clone, Copy)]
 pub enum Refusal {
     BadHeader,
     Small,
@@ -19,7 +21,7 @@ pub enum Refusal {
 }
 
 // What a call answers: done, with the words or bytes written or the row given; or refused.
-#[derive(Drop)]
+#[derive(Clone, Copy)]
 pub enum Answer {
     Done(usize),
     Refused(Refusal),

@@ -19,7 +19,7 @@ use lists::one_row::one_row;
 
 // What a flip of a row is to do in a block: turn the row over in U, and whether it is to merge first. Nothing may
 // be done to lists that are not whole.
-#[derive(Drop)]
+#[derive(Clone, Copy)]
 pub enum Flip {
     Merging(bool),
     Faulty,

@@ -3,5 +3,7 @@
 //
 // Below stand `blocks`, `block_read` and `combinations`. It knows nothing of headers, of fences and of several
 // values. The decision of a flip makes the whole check of both lists; every other function asks for whole lists.
+#![tactic(auto)]
+
 pub mod change;
 pub mod current;

@@ -12,7 +12,7 @@ use words::word::span_of;
 // A fence: the place within a list of the word that covers the fence's group, and the first group which that
 // word covers. It lies in memory as C has it, so that callers in other languages can lend such records.
 #[repr(C)]
-#[derive(Drop)]
+#[derive(Clone, Copy)]
 pub struct Fence {
     pub place: u32,
     pub first: u32,

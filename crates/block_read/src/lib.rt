@@ -3,5 +3,7 @@
 //
 // Below stand `blocks`, which lays out a block, and `list_walk`, which walks along a list. This crate knows nothing
 // of calls, of fence records and of several values.
+#![tactic(auto)]
+
 pub mod fence;
 pub mod read;

@@ -13,7 +13,7 @@ use list_walk::walk::{Walk, walk_to};
 use words::word::group_in;
 
 // A group of 31 rows and the words opened to find it, or damage.
-#[derive(Drop)]
+#[derive(Clone, Copy)]
 pub enum Reading {
     Group(u32, usize),
     Broken,

@@ -4,6 +4,8 @@
 //
 // A block is a slice of its own with the sizes beside it, and only this crate knows what lies where in it.
 // Below stand `lists` and `list_check`. It knows nothing of calls, of fences and of several values.
+#![tactic(auto)]
+
 pub mod layout;
 pub mod put;
 pub mod sizes;

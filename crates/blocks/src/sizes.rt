@@ -8,7 +8,7 @@ use groups::rows::groups_for;
 
 // Row capacity R, groups M, the words of V's room and of U's, threshold T, fence spacing G, the words B of a
 // block and the fences F of a value: worked out once, from a header within its limits.
-#[derive(Drop)]
+#[derive(Clone, Copy)]
 pub struct Sizes {
     pub rows: u32,
     pub groups: u32,

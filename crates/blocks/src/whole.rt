@@ -8,7 +8,7 @@ use crate::sizes::Sizes;
 use list_check::check::{Checked, check, ones_of};
 
 // Whether both lists are whole, with the number of U's ones.
-#[derive(Drop)]
+#[derive(Clone, Copy)]
 pub enum Lists {
     Intact(u32),
     Faulty,

@@ -3,4 +3,6 @@
 //
 // Below stand `block_change`, which changes a block, and `memory`, which has the sizes of an index; above it
 // `fence_records`, which has the fence records.
+#![tactic(auto)]
+
 pub mod value;

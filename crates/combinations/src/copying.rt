@@ -13,7 +13,7 @@ use words::writer::{Pending, copy};
 const STRIDE: usize = 16;
 
 // The first words of a list, and how many groups they cover.
-#[derive(Drop)]
+#[derive(Clone, Copy)]
 pub struct Reach {
     pub words: usize,
     pub groups: u32,
@@ -21,7 +21,7 @@ pub struct Reach {
 
 // What is written before the next step: the run that `ended` is, then `words` words as they are, which
 // cover so many groups. After them the run `pending` is still to be written.
-#[derive(Drop)]
+#[derive(Clone, Copy)]
 pub struct Copying {
     pub ended: Pending,
     pub words: usize,

@@ -8,7 +8,7 @@ use groups::rows::smaller;
 use words::word::{group_in, span_of};
 
 // What is left of a list: `left` times one group, then the words from place `next` on.
-#[derive(Drop)]
+#[derive(Clone, Copy)]
 pub struct Span {
     pub group: u32,
     pub left: u32,

@@ -16,7 +16,7 @@ use lines::verbs::Verb;
 use memory::header::{Changed, Header};
 
 // The calls that change rows.
-#[derive(Drop)]
+#[derive(Clone, Copy)]
 pub enum Change {
     Inserts,
     Updates,
@@ -25,7 +25,7 @@ pub enum Change {
 }
 
 // The calls that change nothing.
-#[derive(Drop)]
+#[derive(Clone, Copy)]
 pub enum Question {
     Queries,
     Values,

@@ -1,5 +1,7 @@
 // A line console over every call of the index, for people who want to try it and for tests: `help` lists
 // its commands. Each line is answered by one line.
+#![tactic(auto)]
+
 mod lending;
 mod serve;
 

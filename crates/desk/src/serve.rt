@@ -8,7 +8,7 @@ use lines::input::{Waiting, has_ended, look_on, nothing_waiting};
 use lines::orders::{Request, next_request};
 
 // What the console keeps from one turn to the next.
-#[derive(Drop)]
+#[derive(Clone, Copy)]
 pub struct Console {
     pub waiting: Waiting,
     pub lent: Lent,

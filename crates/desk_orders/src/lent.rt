@@ -13,7 +13,7 @@ pub const WORDS: usize = 300000;
 pub const FENCES: usize = 16384;
 
 // The header in use, and how much is lent: output, words and fence records.
-#[derive(Drop)]
+#[derive(Clone, Copy)]
 pub struct Lent {
     pub header: Header,
     pub room: usize,

@@ -7,7 +7,7 @@ use lines::say::{say_range, say_zero};
 use lines::verbs::Verb;
 
 // What is to be done with the records.
-#[derive(Drop)]
+#[derive(Clone, Copy)]
 pub enum Task {
     Sets,
     Shows,

@@ -2,4 +2,6 @@
 // row.
 //
 // Below it stands `block_read`, whose answers its specs speak of. It knows nothing of blocks and fences.
+#![tactic(auto)]
+
 pub mod marking;

@@ -3,5 +3,7 @@
 //
 // Below it stand `memory`, which has the header, and `dump_marks`, which marks the rows of groups; above it `fence_records`,
 // which has the fence records and goes from fence to fence and from value to value.
+#![tactic(auto)]
+
 pub mod dump;
 pub mod span;

@@ -15,7 +15,7 @@ use list_walk::walk::{Walk, walk_on, walk_to};
 use words::word::{ALL_ONES, group_in, smaller};
 
 // The groups `from` up to `to`, whose rows below `issued` get the value.
-#[derive(Drop)]
+#[derive(Clone, Copy)]
 pub struct Span {
     pub from: u32,
     pub to: u32,

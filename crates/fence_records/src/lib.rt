@@ -3,6 +3,8 @@
 //
 // Below it stand `memory`, `change_value`, `dump_spans` and `audit_value`, which have everything that a call does
 // without a slice of fence records; the calls themselves stand above, in `index`.
+#![tactic(auto)]
+
 pub mod changing;
 pub mod checking;
 pub mod marking;

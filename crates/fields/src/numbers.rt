@@ -5,7 +5,7 @@ ghost use Rattle.fields.specs.Numbers.{with_digit, decimal_in, word_in};
 use digits::reading::{all_digits, digit_of, number_in};
 
 // What a field or a part of it spells: a number, or none.
-#[derive(Drop)]
+#[derive(Clone, Copy)]
 pub enum Number {
     Is(u32),
     Not,

@@ -5,14 +5,14 @@ ghost use Rattle.fields.specs.Places.{Between};
 use crate::numbers::{Number, decimal_in, word_in};
 
 // Where a field begins and ends. Past the last field both are the line's end.
-#[derive(Drop)]
+#[derive(Clone, Copy)]
 pub struct Field {
     pub from: usize,
     pub to: usize,
 }
 
 // What stands at a place of a line: a number, with the place after it, or no number.
-#[derive(Drop)]
+#[derive(Clone, Copy)]
 pub enum Taken {
     Number(u32, usize),
     Nothing,

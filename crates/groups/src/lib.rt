@@ -2,5 +2,7 @@
 // from its rows' bytes and back, and one row of a group.
 //
 // Nothing stands below it. It knows no words, runs or lists.
+#![tactic(auto)]
+
 mod eights;
 pub mod rows;

@@ -6,7 +6,7 @@ use Prim.Native.Nat.{ℕ}
 use native.Mathlib.Omega.{arith}
 use lib.Dec.{leb, ltb, eqb}
 use lib.ListN.{length}
-use borrow.Author.Tests.{not_true, eqb-false}
+use borrow.Author.Tests.{not-true, eqb-false}
 use Rattle.answers.specs.Numbers.{number_of}
 use Rattle.answers.specs.Outcome.{Check, ◌when◌, outcome}
 use Rattle.answers.specs.declared.Refusal.TheVariants.{Full, Damaged, OutSmall}
@@ -25,7 +25,7 @@ module _ (number : ℕ) where
   refusing-never [] plain reply other none = none
   refusing-never (refusal when true ∷ checks) plain reply other none =
       let both = (and-eq-true_iff (not (eqb (number_of refusal) number)) (never number checks)).0 other in
-      eqb-false (number_of refusal) number (not_true (eqb (number_of refusal) number) both.0)
+      eqb-false (number_of refusal) number (not-true (eqb (number_of refusal) number) both.0)
   refusing-never (refusal when false ∷ checks) plain reply other none =
       refusing-never checks plain reply ((and-eq-true_iff (not (eqb (number_of refusal) number)) (never number checks)).0 other).1 none
 
@@ -34,7 +34,7 @@ module _ (number : ℕ) where
   outcome-never [] result out other some = some
   outcome-never (refusal when true ∷ checks) result out other some =
       let both = (and-eq-true_iff (not (eqb (number_of refusal) number)) (never number checks)).0 other in
-      eqb-false (number_of refusal) number (not_true (eqb (number_of refusal) number) both.0)
+      eqb-false (number_of refusal) number (not-true (eqb (number_of refusal) number) both.0)
   outcome-never (refusal when false ∷ checks) result out other some =
       outcome-never checks result out ((and-eq-true_iff (not (eqb (number_of refusal) number)) (never number checks)).0 other).1 some
 

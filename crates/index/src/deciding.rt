@@ -15,7 +15,7 @@ use memory::header::Header;
 use memory::row::{Holder, Legibility, Vacancy, holder_of, legibility_of, vacancy_of};
 
 // What Insert or Delete is to do: a flip of its row in a value, and whether it merges first.
-#[derive(Drop)]
+#[derive(Clone, Copy)]
 pub enum Flipping {
     Flips(Sizes, u32, bool),
     Kept(Refusal),
@@ -23,7 +23,7 @@ pub enum Flipping {
 
 // What Update is to do: a flip of the row in the value that has it and one in the new value, and whether either
 // merges first; or nothing, where they are the same.
-#[derive(Drop)]
+#[derive(Clone, Copy)]
 pub enum Moving {
     Moves(Sizes, u32, bool, bool),
     Same,

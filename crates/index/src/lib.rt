@@ -4,6 +4,8 @@
 // Below it stand `fence_records`, which has the loops over fence records, and `memory`, `change_value`,
 // `load_column`, `dump_spans` and `audit_value`, which have everything that a call does without them. It knows
 // nothing of histories and programs.
+#![tactic(auto)]
+
 pub mod answering;
 pub mod auditing;
 pub mod changing;

@@ -4,7 +4,7 @@ use digits::reading::digit_of;
 use fields::places::{Taken, is_over, next_field, take_number, take_word};
 
 // How many were put into a buffer, or that the line is none.
-#[derive(Drop)]
+#[derive(Clone, Copy)]
 pub enum Counted {
     Count(usize),
     Wrong,

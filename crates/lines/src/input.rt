@@ -6,7 +6,7 @@ use fields::places::{Field, find};
 
 // What was found at the last look: a line, a line that the buffer does not hold, nothing as yet, or the
 // end of the input.
-#[derive(Drop)]
+#[derive(Clone, Copy)]
 pub enum Found {
     Line,
     Long,
@@ -16,7 +16,7 @@ pub enum Found {
 
 // The line that was found last, from `from` to `to`; the bytes that wait after it, from `next` to `end`,
 // of which those up to `seen` hold no line end; whether a line is passed over that is too long.
-#[derive(Drop)]
+#[derive(Clone, Copy)]
 pub struct Waiting {
     pub found: Found,
     pub from: usize,

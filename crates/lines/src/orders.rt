@@ -6,7 +6,7 @@ use fields::places::{Taken, is_over, last_number, last_word, next_field, take_nu
 
 // A command: its numbers in the order of the line, and the place after them, where the column of a load,
 // the rows of a pack and the words of an unpack begin.
-#[derive(Drop)]
+#[derive(Clone, Copy)]
 pub struct Order {
     pub verb: Verb,
     pub first: u32,
@@ -19,7 +19,7 @@ pub struct Order {
 
 // What is to be done for a line, by what it needs: a load, a change of the index, a question to it, fence
 // records, or none of these; or nothing at all.
-#[derive(Drop)]
+#[derive(Clone, Copy)]
 pub enum Request {
     Loads(Order),
     Changes(Order),
@@ -30,7 +30,7 @@ pub enum Request {
 }
 
 // Four numbers, and the place after them.
-#[derive(Drop)]
+#[derive(Clone, Copy)]
 struct Four {
     pub first: u32,
     pub second: u32,
@@ -39,7 +39,7 @@ struct Four {
     pub rest: usize,
 }
 
-#[derive(Drop)]
+#[derive(Clone, Copy)]
 enum Begun {
     Numbers(Four),
     Nothing,

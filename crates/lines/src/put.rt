@@ -76,7 +76,7 @@ pub fn put_words(out: &mut [u8], at: usize, list: &[u32], count: usize) -> usize
 }
 
 // Which rows are put: those of a dump, or those of an unpack.
-#[derive(Drop)]
+#[derive(Clone, Copy)]
 pub enum Rows {
     Dumped,
     Unpacked,

@@ -1,7 +1,7 @@
 // The commands by their names.
 use check::same;
 
-#[derive(Drop)]
+#[derive(Clone, Copy)]
 pub enum Verb {
     Load,
     Query,

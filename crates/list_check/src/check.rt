@@ -19,7 +19,7 @@ const FAULT: u32 = 0xFFFFFFFF;
 const STRIDE: usize = 64;
 
 // Whether the list is canonical.
-#[derive(Drop)]
+#[derive(Clone, Copy)]
 pub enum Checked {
     Whole,
     Bad,
@@ -54,7 +54,7 @@ fn word_before(list: &[u32], i: usize) -> u32
 }
 
 // What the words of a list have shown so far: the bits of what each covers beyond one group, and the sum of that.
-#[derive(Drop)]
+#[derive(Clone, Copy)]
 pub struct Shown {
     pub gathered: u32,
     pub covered: u32,

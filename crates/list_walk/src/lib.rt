@@ -2,4 +2,6 @@
 // its count of opened words.
 //
 // Below stand `words` and `lists`. It knows nothing of fences, blocks and values.
+#![tactic(auto)]
+
 pub mod walk;

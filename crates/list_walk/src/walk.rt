@@ -8,14 +8,14 @@ use words::word::span_of;
 
 // The word that covers the group sought, how many groups after that one it covers too, and how many
 // words were opened to find it, itself included.
-#[derive(Drop)]
+#[derive(Clone, Copy)]
 pub struct Covering {
     pub word: u32,
     pub beyond: u32,
     pub opened: usize,
 }
 
-#[derive(Drop)]
+#[derive(Clone, Copy)]
 pub enum Walk {
     Covered(Covering),
     Damaged,

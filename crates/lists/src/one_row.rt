@@ -6,7 +6,7 @@ use groups::rows::MASKS;
 use words::writer::{Pending, finish, next_step, store};
 
 // A list of at most three words: the first `count` of them.
-#[derive(Drop)]
+#[derive(Clone, Copy)]
 pub struct Short {
     pub words: [u32; 3],
     pub count: usize,

@@ -3,4 +3,6 @@
 //
 // Below stand `words`, which has the writer of lists, and `blocks`, which knows where a block has its lists. It
 // knows nothing of columns and headers.
+#![tactic(auto)]
+
 pub mod listing;

@@ -35,7 +35,7 @@ fn step_zeros(pending: Pending, count: u32) -> Step
 }
 
 // A list that is being written: its words so far, and the run that is pending.
-#[derive(Drop)]
+#[derive(Clone, Copy)]
 pub struct Listed {
     pub written: usize,
     pub pending: Pending,

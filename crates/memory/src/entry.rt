@@ -10,7 +10,7 @@ use blocks::sizes::{Sizes, sizes_for};
 use groups::rows::ROW_LIMIT;
 
 // What came of the checks that a call begins with: the sizes, or the first refusal that applies.
-#[derive(Drop)]
+#[derive(Clone, Copy)]
 pub enum Entry {
     Ready(Sizes),
     Stop(Refusal),

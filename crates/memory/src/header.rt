@@ -8,7 +8,7 @@ use answers::{Answer, Refusal};
 // Document 01's header: row capacity R, rows issued n, values d, threshold T, fence spacing G. It lies in
 // memory as C has it, so that callers in other languages can pass it.
 #[repr(C)]
-#[derive(Drop)]
+#[derive(Clone, Copy)]
 pub struct Header {
     pub rows: u32,
     pub issued: u32,
@@ -19,7 +19,7 @@ pub struct Header {
 
 // What a change answers: the header to use from now on, which is the one given where it is refused,
 // beside the answer.
-#[derive(Drop)]
+#[derive(Clone, Copy)]
 pub struct Changed {
     pub header: Header,
     pub answer: Answer,

@@ -4,6 +4,8 @@
 // Below it stands `block_read`, which knows one value's block alone; above it `change_value`, `load_column`,
 // `dump_spans` and `audit_value`, for what each call does besides, `fence_records`, which has the fence records,
 // and `index`, which has the calls.
+#![tactic(auto)]
+
 pub mod entry;
 pub mod fence;
 pub mod header;

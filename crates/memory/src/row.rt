@@ -16,7 +16,7 @@ use groups::rows::{mask_of, under};
 
 // What the values read so far say of a row: whether a read failed, in how many values the row is, the
 // last of them, and the words opened.
-#[derive(Drop)]
+#[derive(Clone, Copy)]
 pub struct Row {
     pub damaged: bool,
     pub holders: u32,
@@ -25,7 +25,7 @@ pub struct Row {
 }
 
 // A row's state: a live value, deleted, or a refusal.
-#[derive(Drop)]
+#[derive(Clone, Copy)]
 pub enum State {
     Live(u32),
     Deleted,
@@ -33,28 +33,28 @@ pub enum State {
 }
 
 // What Value answers: the row's state beside the words opened, 0 when refused.
-#[derive(Drop)]
+#[derive(Clone, Copy)]
 pub struct Value {
     pub state: State,
     pub opened: usize,
 }
 
 // Whether a row can be read: every read went well, and at most one found a 1.
-#[derive(Drop)]
+#[derive(Clone, Copy)]
 pub enum Legibility {
     Readable,
     Unreadable,
 }
 
 // The value that holds a row which can be read, if one does.
-#[derive(Drop)]
+#[derive(Clone, Copy)]
 pub enum Holder {
     Found(u32),
     Missing,
 }
 
 // Whether a row is in no value, as the next row has to be.
-#[derive(Drop)]
+#[derive(Clone, Copy)]
 pub enum Vacancy {
     Free,
     Taken,

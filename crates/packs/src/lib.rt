@@ -2,6 +2,8 @@
 //
 // Below stand `words`, for lists, and `answers`, for the numbers a caller gets back. It knows nothing of
 // an index.
+#![tactic(auto)]
+
 pub mod packing;
 pub mod unpacking;
 

@@ -1,5 +1,7 @@
 // Document 01's printing program: one line of hexadecimal on standard input is loaded, and the Query of
 // each value is printed.
+#![tactic(auto)]
+
 mod frame;
 mod printing;
 mod text;

@@ -2,6 +2,8 @@
 // answers is given in plain numbers, those that document 01 has for each case; all else is the call's own.
 //
 // Below it stand `index`, whose calls these are, `packs` for Pack and Unpack, and `memory` for the limits.
+#![tactic(auto)]
+
 pub mod changes;
 pub mod numbers;
 pub mod packing;

@@ -10,7 +10,7 @@ use memory::row::{State, Value};
 
 // Document 01's number, and the words or bytes written or the row given, 0 when refused.
 #[repr(C)]
-#[derive(Drop)]
+#[derive(Clone, Copy)]
 pub struct AnswerNumbers {
     pub number: u32,
     pub count: usize,
@@ -18,7 +18,7 @@ pub struct AnswerNumbers {
 
 // The header to use from now on, and the answer.
 #[repr(C)]
-#[derive(Drop)]
+#[derive(Clone, Copy)]
 pub struct ChangedNumbers {
     pub header: Header,
     pub answer: AnswerNumbers,
@@ -27,7 +27,7 @@ pub struct ChangedNumbers {
 // Document 01's number; 1 for a live row, else 0; its value, 255 if it is deleted, 0 when refused; and
 // the words opened, 0 when refused.
 #[repr(C)]
-#[derive(Drop)]
+#[derive(Clone, Copy)]
 pub struct RowNumbers {
     pub number: u32,
     pub live: u32,
@@ -37,7 +37,7 @@ pub struct RowNumbers {
 
 // Document 01's number, and the words and fences that an index needs, 0 when refused.
 #[repr(C)]
-#[derive(Drop)]
+#[derive(Clone, Copy)]
 pub struct RoomNumbers {
     pub number: u32,
     pub words: usize,

@@ -10,7 +10,7 @@ use native.Mathlib.Numerals.{add-one}
 use lib.Dec.{eqb, ltb}
 use lib.ListN.{length, get_or, take, drop, replicate, length-append, length-replicate, take-append-drop, drop_of_length-le}
 use lib.Seq.{take-suc, drop-cons}
-use borrow.Author.Tests.{eqb-false, ne_eqb, ltb-true, lt-ltb, not_true}
+use borrow.Author.Tests.{eqb-false, ne_eqb, ltb-true, lt-ltb, not-true}
 use Rattle.words.specs.Words.{Run, Run.literal, Run.fill, all_ones, run_of, span, group_in, groups_in, decode, keeps_form, bit_after, well_formed}
 use Rattle.words.proofs.Runs.{Apart}
 
@@ -19,12 +19,12 @@ use Rattle.words.proofs.Runs.{Apart}
 pub keeps_literal : (before group : ℕ) → keeps_form before (literal group) ≡ true → (group ≡ 0 → ⊥) × (group ≡ all_ones → ⊥)
 keeps_literal before group e =
     let s = (and-eq-true_iff (not (eqb group 0)) (not (eqb group all_ones))).0 e in
-    (eqb-false group 0 (not_true (eqb group 0) s.0), eqb-false group all_ones (not_true (eqb group all_ones) s.1))
+    (eqb-false group 0 (not-true (eqb group 0) s.0), eqb-false group all_ones (not-true (eqb group all_ones) s.1))
 
 pub keeps_fill : (before bit count : ℕ) → keeps_form before (fill bit count) ≡ true → (before ≡ bit → ⊥) × (0 < count)
 keeps_fill before bit count e =
     let s = (and-eq-true_iff (not (eqb before bit)) (ltb 0 count)).0 e in
-    (eqb-false before bit (not_true (eqb before bit) s.0), ltb-true 0 count s.1)
+    (eqb-false before bit (not-true (eqb before bit) s.0), ltb-true 0 count s.1)
 
 -- a run that keeps the form covers a group
 pub keeps_covers : (before : ℕ) (run : Run) → keeps_form before run ≡ true → 0 < span run

@@ -2,6 +2,8 @@
 // such lists, and how a finished list is given to a caller.
 //
 // Below it stand `groups`, for rows and their groups, and `answers`. It knows nothing of an index.
+#![tactic(auto)]
+
 pub mod give;
 pub mod word;
 pub mod writer;

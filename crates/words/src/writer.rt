@@ -8,14 +8,14 @@ ghost use Rattle.words.specs.Inner.{uniform, Alone, Takes, written, last_words};
 use crate::word::{ALL_ONES, fill_word};
 
 // A run of `count` groups of one bit that is not written yet; none where `count` is 0.
-#[derive(Drop)]
+#[derive(Clone, Copy)]
 pub struct Pending {
     pub bit: u32,
     pub count: u32,
 }
 
 // The words to write now, none, one or two, and the run that is pending after them.
-#[derive(Drop)]
+#[derive(Clone, Copy)]
 pub struct Step {
     pub words: usize,
     pub first: u32,

@@ -9,7 +9,7 @@ use native.Mathlib.Omega.{arith}
 use lib.Dec.{eqb}
 use lib.ListN.{length, get_or, set, drop, drop_of_length-le}
 use lib.Seq.{sets, set-set, set-get_or, drop-cons}
-use borrow.Author.Tests.{eqb-true, eqb-false, ne_eqb, not_true}
+use borrow.Author.Tests.{eqb-true, eqb-false, ne_eqb, not-true}
 use Rattle.words.specs.Words.{fill, word_of, all_ones, encode}
 use Rattle.words.specs.Inner.{written, Takes}
 use Rattle.words.specs.declared.writer.Pending.{Pending}
@@ -112,7 +112,7 @@ pub none-full : (groups : List ℕ) → none_full groups ≡ true → (i : ℕ) 
 none-full [] e i h is = omega arith
 none-full (group ∷ groups) e zero h is =
     let both = (and-eq-true_iff (not (eqb group all_ones)) (none_full groups)).0 e in
-    eqb-false group all_ones (not_true (eqb group all_ones) both.0) is
+    eqb-false group all_ones (not-true (eqb group all_ones) both.0) is
 none-full (group ∷ groups) e (suc i) h is =
     let both = (and-eq-true_iff (not (eqb group all_ones)) (none_full groups)).0 e in
     none-full groups both.1 i (omega arith) is

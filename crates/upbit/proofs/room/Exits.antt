@@ -3,7 +3,7 @@ use mathlib.Core.Path.{◌≡◌, refl, sym, ◌∙◌}
 use mathlib.Core.Bool.{Bool, true, false, not}
 use Prim.Native.Nat.{ℕ, ◌*◌}
 use native.Mathlib.Omega.{arith}
-use borrow.Author.Tests.{not_true, not-false, le-leb}
+use borrow.Author.Tests.{not-true, not-false, le-leb}
 use Rattle.answers.specs.Numbers.{number_of}
 use Rattle.answers.specs.declared.Refusal.TheVariants.{BadHeader}
 use Rattle.blocks.specs.Sizes.{sizes_for}
@@ -18,7 +18,7 @@ module _ (rows values threshold spacing : ℕ) {holds : Bool} (told : holds ≡ 
   pub outside : {number : ℕ} → number ≡ number_of BadHeader → not holds ≡ true
       → ◌≡◌ {A = RoomNumbers} (record { number = number; words = 0; fences = 0 }) (room_outcome rows values threshold spacing)
   unfolding room_outcome
-  outside n e = rw (n, ← told, not_true holds e) refl
+  outside n e = rw (n, ← told, not-true holds e) refl
 
   module _ (e : not holds ≡ false) where
     within_header : within_limits (header_for rows 0 values threshold spacing) ≡ true

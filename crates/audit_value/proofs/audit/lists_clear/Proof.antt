@@ -1,6 +1,6 @@
 -- `lists_clear` meets its contract: the two answers are those for both lists.
 use mathlib.Core.Path.{◌≡◌}
-use borrow.Author.Tests.{not_true, not-false}
+use borrow.Author.Tests.{not-true, not-false}
 use Rattle.groups.specs.Rows.{clear_from}
 use Rattle.words.specs.Words.{decode}
 use Rattle.blocks.specs.Block.{value_list}
@@ -32,7 +32,7 @@ returns : tie.Need-returns
 unfolding clear_lists
 returns c =
     let found = c.before.clear-from.result in
-    first_fails _ _ found (value-told c.before) (not_true found c.if1.true)
+    first_fails _ _ found (value-told c.before) (not-true found c.if1.true)
 
 update-list-requires : tie.Need-update-list-requires
 update-list-requires c κs =

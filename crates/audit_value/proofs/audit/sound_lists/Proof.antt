@@ -2,7 +2,7 @@
 use mathlib.Core.Path.{◌∙◌, sym}
 use native.Mathlib.Omega.{arith}
 use borrow.Author.Rules.{rules}
-use borrow.Author.Tests.{not_true, not-false}
+use borrow.Author.Tests.{not-true, not-false}
 use Rattle.audit_value.proofs.audit.Exits.{not-whole, not_clear, unused_decides}
 use Rattle.blocks.proofs.whole.Verdict.{intact-whole}
 use Rattle.audit_value.proofs.audit.sound_lists.Statement.{statement}
@@ -34,7 +34,7 @@ returns-2 c =
     let told = c.before.before.enum_told.given in
     let clear = c.before.lists-clear in
     not_clear start.args.sizes start.args.issued start.args.block.now told.0.0 (sym told.1 ∙ c.before.before.before.before.check-lists.ensures)
-    clear.result clear.ensures (not_true clear.result c.if1.true)
+    clear.result clear.ensures (not-true clear.result c.if1.true)
 
 unused-zero-requires : tie.Need-unused-zero-requires
 unused-zero-requires c κs =

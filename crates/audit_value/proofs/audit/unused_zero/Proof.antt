@@ -1,7 +1,7 @@
 -- `unused_zero` meets its contract: the two answers are those for both rooms.
 use mathlib.Core.Path.{◌∙◌, ap}
 use borrow.Author.Rules.{rules}
-use borrow.Author.Tests.{not_true, not-false}
+use borrow.Author.Tests.{not-true, not-false}
 use Rattle.groups.specs.Rows.{all_zero}
 use Rattle.blocks.specs.Audit.{unused_zero}
 use Rattle.blocks.proofs.WholeLists.{whole_parts}
@@ -27,7 +27,7 @@ unfolding unused_zero
 returns c =
     let value = c.before.all_zero_lem in
     first_fails _ _ value.result (value.ensures ∙ ap all_zero c.before.before.before.value_unused.ensures)
-    (not_true value.result c.if1.true)
+    (not-true value.result c.if1.true)
 
 all-zero-requires-2 : tie.Need-all-zero-requires-2
 all-zero-requires-2 c κs = search rules

@@ -5,7 +5,7 @@ use Prim.Native.Nat.{ℕ}
 use native.Mathlib.Omega.{arith}
 use lib.ListN.{length}
 use borrow.Author.Rules.{rules}
-use borrow.Author.Tests.{not_true, not-false}
+use borrow.Author.Tests.{not-true, not-false}
 use Rattle.blocks.specs.Sizes.{block_size}
 use Rattle.blocks.specs.Audit.{sound_lists}
 use Rattle.audit_value.proofs.SoundLists.{sound_parts}
@@ -40,7 +40,7 @@ listed : (c : tie.After-sound-lists)
 listed c = rw c.before.Block-of.ensures at c.sound-lists.ensures
 
 returns : tie.Need-returns
-returns c = (rw (sym (listed c.before) ∙ not_true c.before.sound-lists.result c.if1.true) refl, never)
+returns c = (rw (sym (listed c.before) ∙ not-true c.before.sound-lists.result c.if1.true) refl, never)
 
 take-value-requires : tie.Need-take-value-requires
 take-value-requires c κs =

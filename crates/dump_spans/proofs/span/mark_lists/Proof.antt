@@ -6,7 +6,7 @@ use mathlib.Core.List.{List}
 use Prim.Native.Nat.{ℕ, ◌+◌, ◌-◌, ◌<◌, ◌≤◌}
 use native.Mathlib.Omega.{arith}
 use borrow.Author.Rules.{rules}
-use borrow.Author.Tests.{not_true, not-false}
+use borrow.Author.Tests.{not-true, not-false}
 use lib.ListN.{length}
 use Rattle.list_walk.specs.Walk.{walk_to}
 use Rattle.blocks.specs.Sizes.{update_room}
@@ -158,7 +158,7 @@ same_length : tie.Need-same-length invariant-loop decreases-loop
 same_length c = same c.before
 
 returns-3 : tie.Need-returns-3 invariant-loop decreases-loop
-returns-3 c = stops c.before (not_true (held c.before) c.if1.true)
+returns-3 c = stops c.before (not-true (held c.before) c.if1.true)
 
 same-length-2 : tie.Need-same-length-2 invariant-loop decreases-loop
 same-length-2 c = same c.before.before.before

@@ -1,6 +1,6 @@
 -- `check` meets its contract, an exit at a time: the number of words, the form and the number of groups, the last group. Assumes nothing.
 use Rattle.std.proofs.Common.{◌≡◌, Bool, cond, sym, ap, ◌∙◌, arith, rules}
-use borrow.Author.Tests.{not_true, not-false}
+use borrow.Author.Tests.{not-true, not-false}
 use Rattle.list_check.specs.Inner.{check_of}
 use Rattle.list_check.specs.declared.check.Checked.TheVariants.{Whole, Bad}
 use Rattle.list_check.proofs.check.Ends.{too_long, ends}
@@ -24,7 +24,7 @@ returns-2 c =
     let a = c.before.before.before.before.before.args in
     let keeps = c.before.keeps-form in
     let groups = c.before.before.before.groups-for in
-    not_formed a.list.now a.length (rw groups.ensures at (sym keeps.ensures ∙ not_true keeps.result c.if2.true))
+    not_formed a.list.now a.length (rw groups.ensures at (sym keeps.ensures ∙ not-true keeps.result c.if2.true))
 
 last-group-requires : tie.Need-last-group-requires
 last-group-requires c κs = search rules
@@ -52,7 +52,7 @@ told c =
     last.result last.ensures c.tail-clear.result c.tail-clear.ensures
 
 returns-3 : tie.Need-returns-3
-returns-3 c = ap (λ (t : Bool). cond t Whole Bad) (sym (not_true c.before.tail-clear.result c.if3.true)) ∙ told c.before
+returns-3 c = ap (λ (t : Bool). cond t Whole Bad) (sym (not-true c.before.tail-clear.result c.if3.true)) ∙ told c.before
 
 returns-4 : tie.Need-returns-4
 returns-4 c = ap (λ (t : Bool). cond t Whole Bad) (sym (not-false c.before.tail-clear.result c.if3.false)) ∙ told c.before

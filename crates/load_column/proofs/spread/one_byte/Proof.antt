@@ -1,6 +1,6 @@
 -- `one_byte` meets its contract: the length first, then two windows of rows. Assumes nothing.
 use Rattle.std.proofs.Common.{◌≡◌, true, false, length, get_or, take, drop, sym, refl, ◌∙◌, arith, rules, eq-eqb, ne_eqb}
-use borrow.Author.Tests.{not_true, not-false}
+use borrow.Author.Tests.{not-true, not-false}
 use Rattle.load_list.specs.Inner.{all_alike}
 use Rattle.load_column.proofs.spread.Alike.{window_length, two_windows}
 use Rattle.load_column.proofs.spread.one_byte.Statement.{statement}
@@ -28,7 +28,7 @@ returns-2 : tie.Need-returns-2
 returns-2 c =
     let rows = c.before.before.before.before.before.before.args.rows.now in
     let front : all_alike (get_or rows 0 0) (take 16 (drop 1 rows)) ≡ false =
-    sym c.before.sixteen-alike.ensures ∙ not_true c.before.sixteen-alike.result c.if2.true
+    sym c.before.sixteen-alike.ensures ∙ not-true c.before.sixteen-alike.result c.if2.true
     in
     let long : length rows ≡ 31 = c.before.before.before.before.if1.false in
     rw (eq-eqb (length rows) 31 long, two_windows rows long, front) refl

@@ -1,7 +1,7 @@
 -- `pack` refuses in the order of document 01's numbers, and writes where the list is sure to fit; elsewhere `pack_aside` answers.
 use mathlib.Core.Path.{◌∙◌, sym}
 use native.Mathlib.Omega.{arith}
-use borrow.Author.Tests.{not_true, not-false}
+use borrow.Author.Tests.{not-true, not-false}
 use Rattle.words.specs.Words.{packed}
 use Rattle.words.proofs.Size.{packed-length}
 use Rattle.answers.proofs.Given.{fits}
@@ -17,7 +17,7 @@ returns : tie.Need-returns
 returns c =
     let a = c.before.before.before.before.args in
     let k = c.before.all-bits in
-    bad_value_lem a.rows.now a.out.now (sym k.ensures ∙ not_true k.result c.if1.true)
+    bad_value_lem a.rows.now a.out.now (sym k.ensures ∙ not-true k.result c.if1.true)
 
 returns-2 : tie.Need-returns-2
 returns-2 c =

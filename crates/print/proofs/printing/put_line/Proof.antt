@@ -1,7 +1,7 @@
 -- `put_line` refuses a line that is no frame.
 use mathlib.Core.Path.{sym, ◌∙◌}
 use native.Mathlib.Omega.{arith}
-use borrow.Author.Tests.{not_true, not-false}
+use borrow.Author.Tests.{not-true, not-false}
 use Rattle.print.proofs.Stores.{length_refusal}
 use Rattle.print.proofs.Lines.{bad_frame}
 use borrow.Author.Rules.{rules}
@@ -17,7 +17,7 @@ returns c =
     let frame = c.before.before.before.before.before.before.is-frame in
     let put = c.before.before.put-refusal in
     let number = c.before.before.before.number in
-    let lines = bad_frame start.args.line.now (sym frame.ensures ∙ not_true frame.result c.before.before.before.before.before.if1.true) in
+    let lines = bad_frame start.args.line.now (sym frame.ensures ∙ not-true frame.result c.before.before.before.before.before.if1.true) in
     rw (← lines, ← number.ensures) (omega (arith, put.ensures.0), put.ensures.1)
 
 put-frame-requires : tie.Need-put-frame-requires

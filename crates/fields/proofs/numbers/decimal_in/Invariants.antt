@@ -1,0 +1,16 @@
+-- `decimal_in`: what is read so far and what is left spell what the field spells.
+use mathlib.Core.Path.{◌≡◌, sym, ◌∙◌}
+use Prim.Native.Nat.{◌≤◌, ◌-◌}
+use native.Mathlib.Omega.{arith}
+use lib.ListN.{length, drop}
+use borrow.Author.Rules.{rules}
+use Rattle.fields.specs.declared.numbers.Number.TheVariants.{Is}
+use Rattle.fields.specs.Numbers.{decimal_from, decimal_in}
+use Rattle.fields.proofs.Spelling.{no_digits, from_zero, all_read, read_none, read_more}
+use Rattle.fields.proofs.numbers.decimal_in.Given as goal
+
+abbrev pub invariant-loop-i : goal.invariant-loop-i
+invariant-loop-i l = (l.i ≤ length l.digits) × (decimal_from (Is l.value) (drop l.i l.digits) ≡ decimal_in l.digits)
+
+abbrev pub decreases-loop-i : goal.decreases-loop-i
+decreases-loop-i l = length l.digits - l.i

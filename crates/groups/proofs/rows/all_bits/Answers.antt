@@ -1,0 +1,26 @@
+-- `all_bits`: the rows are bits where the largest row so far is one and the rows still to come are bits. Assumes nothing.
+use mathlib.Core.Path.{◌≡◌, refl, ◌∙◌, sym}
+use mathlib.Core.Bool.{◌&&◌}
+use mathlib.Core.Logic.{⊎_elim}
+use Prim.Native.Nat.{max, ◌-◌, ◌≤◌}
+use native.Mathlib.Omega.{arith}
+use lib.Dec.{ltb}
+use lib.ListN.{length, get_or, drop}
+use Rattle.groups.specs.Rows.{are_bits}
+use Rattle.groups.proofs.Bits.{largest_more, largest_all}
+use Rattle.groups.proofs.rows.all_bits.Goals as goal
+
+pub loop-i-init : goal.loop-i-init
+loop-i-init c = (omega arith, refl)
+
+pub loop-i-preserved : goal.loop-i-preserved
+loop-i-preserved c =
+    let loop = c.loop-i in
+    let rows = c.args.rows.now in
+    let larger : c.if-largest-rows.largest ≡ max loop.largest (get_or rows loop.i 0) = ⊎_elim (λ w. omega arith) (λ w. omega arith) c.if-largest-rows.branch-raw in
+    (omega arith, loop.invariant.1 ∙ rw larger (largest_more rows loop.largest loop.i (omega arith)))
+
+pub returns : goal.returns
+returns c =
+    let loop = c.loop-i in
+    sym (loop.invariant.1 ∙ largest_all c.args.rows.now loop.largest loop.i (omega arith))

@@ -1,0 +1,31 @@
+-- `short_group`: after i turns the first i rows are gathered, the first of them the highest. Assumes nothing.
+use Prim.Native.Nat.{◌-◌}
+use native.Mathlib.Omega.{arith}
+use lib.ListN.{length}
+use lib.Pow.{pow_mono}
+use borrow.Author.Rules.{rules}
+use Rattle.groups.proofs.Gather.{Gathered, gather_none, gather_more, gather_all}
+use Rattle.groups.proofs.rows.short_group.Goals as goal
+
+pub loop-i-init : goal.loop-i-init
+loop-i-init c = gather_none c.args.rows.now
+
+pub overflow_mul-group : goal.overflow_mul-group
+overflow_mul-group c = omega (arith, pow_mono {i = c.loop-i.i} {j = 30} (omega arith))
+
+pub overflow_add-group : goal.overflow_add-group
+overflow_add-group c =
+    let i = c.loop-i.i in
+    omega (arith, pow_mono {i = i} {j = 30} (omega arith), c.type_inv.rows i)
+
+pub loop-i-preserved : goal.loop-i-preserved
+loop-i-preserved c =
+    let loop = c.loop-i in
+    let start = c in
+    rw c.wide.ensures.0 (gather_more start.args.rows.now loop.group loop.i start.requires.0 start.requires.1 (omega arith) loop.invariant)
+
+pub returns : goal.returns
+returns c =
+    let loop = c.loop-i in
+    let start = c in
+    gather_all start.args.rows.now loop.group loop.i start.requires.1 (omega arith) loop.invariant

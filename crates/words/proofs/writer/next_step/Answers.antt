@@ -1,0 +1,20 @@
+-- `next_step` takes in a group as often as it comes: a uniform one as `step_fill` does, any other, which comes once, as `step_literal` does.
+use mathlib.Core.Path.{◌≡◌}
+use native.Mathlib.Omega.{arith}
+use borrow.Author.Rules.{rules}
+use Rattle.words.proofs.writer.next_step.Goals as goal
+
+pub returns-then-group-eq0 : goal.returns-then-group-eq0
+returns-then-group-eq0 c = rw c.if-group-eq0.true c.step_fill.ensures
+
+pub returns-then-group-eq-ALL_ONES : goal.returns-then-group-eq-ALL_ONES
+returns-then-group-eq-ALL_ONES c = rw c.if-group-eq-ALL_ONES.true c.step_fill-then-group-eq-ALL_ONES.ensures
+
+pub step_literal-requires : goal.step_literal-requires
+step_literal-requires c = (omega arith, omega arith, c.if-group-eq0.false, c.if-group-eq-ALL_ONES.false)
+
+pub returns : goal.returns
+returns c =
+    let s = c in
+    let once : s.args.count ≡ 1 = omega (arith, s.requires.3 c.if-group-eq0.false c.if-group-eq-ALL_ONES.false) in
+    rw once c.step_literal.ensures
