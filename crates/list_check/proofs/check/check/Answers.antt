@@ -1,0 +1,54 @@
+-- `check` meets its contract, an exit at a time: the number of words, the form and the number of groups, the last group. Assumes nothing.
+use Rattle.std.proofs.Common.{◌≡◌, Bool, cond, sym, ap, ◌∙◌, arith, rules}
+use borrow.Author.Tests.{not-true, not-false}
+use Rattle.list_check.specs.Inner.{check_of}
+use Rattle.list_check.specs.declared.check.Checked.TheVariants.{Whole, Bad}
+use Rattle.list_check.proofs.check.Ends.{too_long, ends}
+use Rattle.list_check.proofs.check.Verdict.{not_formed}
+use Rattle.list_check.proofs.check.check.Goals as goal
+
+pub returns-then-groups-list : goal.returns-then-groups-list
+returns-then-groups-list c =
+    let a = c.args in
+    too_long a.list.now a.length (omega (arith, c.groups_for-groups.ensures, c.if-groups-list.true))
+
+pub keeps_form-requires : goal.keeps_form-requires
+keeps_form-requires c = omega (arith, c.groups_for-groups.ensures, c.requires, c.if-groups-list.false)
+
+pub returns-then-not-keeps_form : goal.returns-then-not-keeps_form
+returns-then-not-keeps_form c =
+    let a = c.args in
+    let keeps = c.keeps_form in
+    let groups = c.groups_for-groups in
+    not_formed a.list.now a.length (rw groups.ensures at (sym keeps.ensures ∙ c.if-not-keeps_form.true))
+
+pub overflow_mul-groups : goal.overflow_mul-groups
+overflow_mul-groups c = omega (arith, c.groups_for-groups.ensures)
+
+pub overflow_sub-groups : goal.overflow_sub-groups
+overflow_sub-groups c = omega (arith, c.groups_for-groups.ensures)
+
+pub tail_clear-requires : goal.tail_clear-requires
+tail_clear-requires c = omega (arith, c.groups_for-groups.ensures)
+
+pub returns-then-not-tail_clear : goal.returns-then-not-tail_clear
+returns-then-not-tail_clear c =
+    let told : cond c.tail_clear.result Whole Bad ≡ check_of c.args.list.now c.args.length =
+      let a = c.args in
+      let keeps = c.keeps_form in
+      let groups = c.groups_for-groups in
+      let last = c.last_group in
+      ends a.list.now a.length groups.result groups.ensures (sym keeps.ensures ∙ c.if-not-keeps_form.false)
+      last.result last.ensures c.tail_clear.result c.tail_clear.ensures in
+    ap (λ (t : Bool). cond t Whole Bad) (sym (c.if-not-tail_clear.true)) ∙ told
+
+pub returns : goal.returns
+returns c =
+    let told : cond c.tail_clear.result Whole Bad ≡ check_of c.args.list.now c.args.length =
+      let a = c.args in
+      let keeps = c.keeps_form in
+      let groups = c.groups_for-groups in
+      let last = c.last_group in
+      ends a.list.now a.length groups.result groups.ensures (sym keeps.ensures ∙ c.if-not-keeps_form.false)
+      last.result last.ensures c.tail_clear.result c.tail_clear.ensures in
+    ap (λ (t : Bool). cond t Whole Bad) (sym (c.if-not-tail_clear.false)) ∙ told

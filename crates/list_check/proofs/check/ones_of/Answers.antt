@@ -1,0 +1,30 @@
+-- `ones_of` meets its contract. The loop's invariant is `Counted`: the ones of the words read. Assumes nothing.
+use Rattle.std.proofs.Common.{◌-◌, length, arith}
+use Rattle.list_check.proofs.check.Counting.{Counted, count_none, span_fits, sum_fits, count-more, count_all}
+use Rattle.list_check.proofs.check.ones_of.Goals as goal
+
+pub loop-i-init : goal.loop-i-init
+loop-i-init c = count_none c.args.list.now
+
+pub ones_in-ones-requires : goal.ones_in-ones-requires
+ones_in-ones-requires c =
+    let loop = c.loop-i in
+    let start = c in
+    span_fits start.args.list.now loop.i c.loop-i-test.true start.requires
+
+pub overflow_add-ones : goal.overflow_add-ones
+overflow_add-ones c =
+    let loop = c.loop-i in
+    let start = c in
+    omega (arith, sum_fits start.args.list.now loop.i c.loop-i-test.true loop.invariant c.ones_in-ones.result c.ones_in-ones.ensures start.requires)
+
+pub loop-i-preserved : goal.loop-i-preserved
+loop-i-preserved c =
+    let loop = c.loop-i in
+    let start = c in
+    count-more start.args.list.now loop.i c.loop-i-test.true loop.invariant c.ones_in-ones.result c.ones_in-ones.ensures
+
+pub returns : goal.returns
+returns c =
+    let loop = c.loop-i in
+    count_all c.args.list.now loop.ones loop.i c.loop-i-test.false loop.invariant
