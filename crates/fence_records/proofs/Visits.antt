@@ -17,10 +17,10 @@ use Rattle.block_read.specs.declared.fence.Fence.{Fence}
 -- ---- answers
 
 -- an answer that goes on with one test more at each number stays false once it is
-module _ (answer test : ℕ → Bool) (goes_on_lem : (number : ℕ) → answer (suc number) ≡ answer number && test number) where
+module _ (answer test : ℕ → Bool) (goes_on : (number : ℕ) → answer (suc number) ≡ answer number && test number) where
   further : (more number : ℕ) → answer number ≡ false → answer (number + more) ≡ false
   further zero number fails = rw add-zero fails
-  further (suc more) number fails = rw (add-suc, goes_on_lem (number + more), further more number fails) refl
+  further (suc more) number fails = rw (add-suc, goes_on (number + more), further more number fails) refl
 
   stays_false : (number count : ℕ) → number ≤ count → answer number ≡ false → answer count ≡ false
   stays_false number count h fails =

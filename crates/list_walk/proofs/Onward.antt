@@ -50,8 +50,8 @@ module _ (list : List ℕ) (budget skip : ℕ) where
       (here_or_later list budget i passed c h e)
 
 module _ (list : List ℕ) (first group budget : ℕ) (c : Covering) (e : walk_to list first group budget ≡ Covered c) (skip : ℕ) where
-  goes_on_lem : GoesOn list budget c skip (walk_to list first (group + skip) budget)
-  goes_on_lem =
+  goes_on : GoesOn list budget c skip (walk_to list first (group + skip) budget)
+  goes_on =
       let early = found_early list first group budget c e in
       let past : group + skip - first ≡ group - first + skip = omega arith in
       rw (starts list first (group + skip) budget (omega arith), past)

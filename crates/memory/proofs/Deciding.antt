@@ -45,7 +45,7 @@ ready_passes given sizes (refusal when false ∷ checks) e = let behind = ready_
 -- the first that applies refuses
 pub record Refuses {A : Type 0} (read : List Check → A) (refused : Refusal → A) : Type 0 where
   pub stops : (refusal : Refusal) (checks : List Check) → read (refusal when true ∷ checks) ≡ refused refusal
-  pub goes_on_lem : (refusal : Refusal) (checks : List Check) → read (refusal when false ∷ checks) ≡ read checks
+  pub goes_on : (refusal : Refusal) (checks : List Check) → read (refusal when false ∷ checks) ≡ read checks
 
 module _ {A : Type 0} {read : List Check → A} {refused : Refusal → A} (refuses : Refuses read refused) (rest : List Check) where
   -- checks that pass leave those behind them
@@ -64,21 +64,21 @@ module _ {A : Type 0} {read : List Check → A} {refused : Refusal → A} (refus
 -- ---- what reads them: a decision, a change, a call with an output
 
 pub decided_refuses : {A : Type 0} (refused : Refusal → A) (done : A) → Refuses (λ checks. decided refused checks done) refused
-decided_refuses refused done = record { stops = λ refusal checks. refl; goes_on_lem = λ refusal checks. refl }
+decided_refuses refused done = record { stops = λ refusal checks. refl; goes_on = λ refusal checks. refl }
 
 -- refused: the header given back, the memory as it was
 abbrev pub refused_change : Header → Memory → Refusal → After
 refused_change back memory refusal = record { answer = record { number = number_of refusal; count = 0 }; header = back; memory = memory }
 
 pub change_refuses : (back : Header) (memory : Memory) (after : After) → Refuses (λ checks. change checks back memory after) (refused_change back memory)
-change_refuses back memory after = record { stops = λ refusal checks. refl; goes_on_lem = λ refusal checks. refl }
+change_refuses back memory after = record { stops = λ refusal checks. refl; goes_on = λ refusal checks. refl }
 
 -- refused: the output as it was
 abbrev pub refused_outcome : List ℕ → Refusal → Outcome
 refused_outcome out refusal = record { answer = record { number = number_of refusal; count = 0 }; output = out }
 
 pub outcome_refuses : (result out : List ℕ) → Refuses (λ checks. outcome checks result out) (refused_outcome out)
-outcome_refuses result out = record { stops = λ refusal checks. refl; goes_on_lem = λ refusal checks. refl }
+outcome_refuses result out = record { stops = λ refusal checks. refl; goes_on = λ refusal checks. refl }
 
 -- ---- a decision and the change that carries it out have the same checks
 

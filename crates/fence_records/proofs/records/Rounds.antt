@@ -53,8 +53,8 @@ module _ {sizes : Sizes} (words : List ℕ) (fences : List Fence) (value : ℕ) 
   pub below : (j : ℕ) → j < sizes.fences → j < count
   below j less = rw (← inside.limits.fences_are) less
 
-  pub goes_on_lem : (j : ℕ) (fence : Fence) → fence ≡ fence_at sizes list j → fence ≡ fence_before sizes list (j + 1)
-  goes_on_lem j fence e = rw (one_more j) e
+  pub goes_on : (j : ℕ) (fence : Fence) → fence ≡ fence_at sizes list j → fence ≡ fence_before sizes list (j + 1)
+  goes_on j fence e = rw (one_more j) e
 
   -- ---- records made anew
 

@@ -52,9 +52,9 @@ module _ (words : List ℕ) (fences : List Fence) (header : Header) (out : List 
     enough = omega (arith, (numbers is).few_issued, (numbers is).few_rows)
 
     -- the header and the sizes hold
-    goes_on_lem : dump_outcome header memory out ≡ outcome behind (bytes_of header memory header.issued) out
+    goes_on : dump_outcome header memory out ≡ outcome behind (bytes_of header memory header.issued) out
     unfolding dump_outcome
-    goes_on_lem = rw (is.holds, planned_lent is) refl
+    goes_on = rw (is.holds, planned_lent is) refl
 
     module _ (fine : Bool) (left : List ℕ)
         (marks : (fine ≡ values_hold header memory rows header.values) × (fine ≡ true → left ≡ marked_values header memory rows header.values)) where
@@ -65,7 +65,7 @@ module _ (words : List ℕ) (fences : List Fence) (header : Header) (out : List 
       is_intact = sym (dump_holds header memory (numbers is) row_limit enough) ∙ held
 
       pub dump_damaged : T (not fine) → Gives (dump_outcome header memory out) (Refused Damaged) out
-      dump_damaged fails = rw (goes_on_lem, is_intact, is_false fine fails) (record { answers = refl; leaves = refl })
+      dump_damaged fails = rw (goes_on, is_intact, is_false fine fails) (record { answers = refl; leaves = refl })
 
       pub dump_done : T (not (not fine)) → (answer : Answer) (given : List ℕ) → Gives (rows_given header.issued left out) answer given
           → Gives (dump_outcome header memory out) answer given
@@ -74,4 +74,4 @@ module _ (words : List ℕ) (fences : List Fence) (header : Header) (out : List 
           let is-fine = is_true fine holds in
           let bytes : take header.issued left ≡ bytes_of header memory header.issued =
           rw (marks.1 is-fine, clear) (dump_bytes header memory (numbers is) row_limit enough (held ∙ is-fine)) in
-          rw (goes_on_lem, is_intact, is-fine, ← bytes) gives
+          rw (goes_on, is_intact, is-fine, ← bytes) gives

@@ -46,7 +46,7 @@ use Rattle.block_read.specs.Fences.{fence_of, fence_at}
 use Rattle.memory.specs.Fences.{no_fence, right_fences, is_fence}
 use Rattle.memory.specs.Inner.{Fenced, fence_before}
 use Rattle.memory.specs.Memory.{block_at, list_at, fences_at}
-use Rattle.fence_records.proofs.records.Rounds.{fence_fits, first_fits, below, goes_on_lem, RightTo, none_wrong, right_so_far, wrong_here, all_compared}
+use Rattle.fence_records.proofs.records.Rounds.{fence_fits, first_fits, below, goes_on, RightTo, none_wrong, right_so_far, wrong_here, all_compared}
 use Rattle.blocks.specs.Inner.{Limits}
 use Rattle.block_read.specs.declared.fence.Fence.{Fence}
 use Rattle.block_read.specs.contracts.fence.Fence as Fence-T
@@ -95,7 +95,7 @@ exit-1 : (words : List ℕ) (fences : List Fence) (sizes : Sizes) (value : ℕ) 
 exit-1 words fences sizes value req j less r2 e2 r3 e3 r4 e4 h1 = wrong_here words fences value req.0 j less r2 e2 r3 e3 r4 e4 h1
 
 loop-keep : (words : List ℕ) (fences : List Fence) (sizes : Sizes) (value : ℕ) (req : Fenced sizes (length words) (length fences) value × (value_length (block_at sizes words value) ≤ value_room sizes)) (j : ℕ) (fence : Fence) (inv : (fence ≡ fence_before sizes (list_at sizes words value) j) × RightTo words fences value req.0 j) (less : j < sizes.fences) (r2 : Fence) (e2 : r2 ≡ fence_at sizes (list_at sizes words value) j) (r3 : Fence) (e3 : r3 ≡ get_or fences ((value * sizes.fences) + j) no_fence) (r4 : Bool) (e4 : r4 ≡ is_fence r2 r3) (h1 : T (not (not (r4)))) → (r2 ≡ fence_before sizes (list_at sizes words value) (j + 1)) × RightTo words fences value req.0 (j + 1)
-loop-keep words fences sizes value req j fence inv less r2 e2 r3 e3 r4 e4 h1 = (goes_on_lem words fences value req.0 j r2 e2, right_so_far words fences value req.0 j less r2 e2 r3 e3 r4 e4 h1 inv.1)
+loop-keep words fences sizes value req j fence inv less r2 e2 r3 e3 r4 e4 h1 = (goes_on words fences value req.0 j r2 e2, right_so_far words fences value req.0 j less r2 e2 r3 e3 r4 e4 h1 inv.1)
 
 exit-2 : (words : List ℕ) (fences : List Fence) (sizes : Sizes) (value : ℕ) (req : Fenced sizes (length words) (length fences) value × (value_length (block_at sizes words value) ≤ value_room sizes)) (j : ℕ) (fence : Fence) (inv : (fence ≡ fence_before sizes (list_at sizes words value) j) × RightTo words fences value req.0 j) (all : j ≡ sizes.fences) → true ≡ right_fences sizes (list_at sizes words value) 0 (fences_at sizes fences value)
 exit-2 words fences sizes value req j fence inv all = all_compared words fences value req.0 j inv.1 all

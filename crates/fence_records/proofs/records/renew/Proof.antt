@@ -45,7 +45,7 @@ use Rattle.block_read.specs.Fences.{fence_of, fence_at}
 use Rattle.memory.specs.Inner.{Fenced, fence_before}
 use Rattle.memory.specs.Memory.{block_at, list_at}
 use Rattle.change_value.specs.Change.{renewed}
-use Rattle.fence_records.proofs.records.Rounds.{fence_inside, fence_fits, first_fits, below, goes_on_lem, made_to, none_made, makes, all_made}
+use Rattle.fence_records.proofs.records.Rounds.{fence_inside, fence_fits, first_fits, below, goes_on, made_to, none_made, makes, all_made}
 use Rattle.blocks.specs.Inner.{Limits}
 use Rattle.block_read.specs.declared.fence.Fence.{Fence}
 use Rattle.block_read.specs.contracts.fence.Fence as Fence-T
@@ -90,7 +90,7 @@ call-3 : (words : List ℕ) (fences : List Fence) (sizes : Sizes) (value : ℕ) 
 call-3 words fences sizes value req j made n-made less = subst (λ (m : ℕ). value * sizes.fences + j < m) (sym n-made) (fence_inside words fences value req.0 j less)
 
 loop-keep : (words : List ℕ) (fences : List Fence) (sizes : Sizes) (value : ℕ) (req : Fenced sizes (length words) (length fences) value × (value_length (block_at sizes words value) ≤ value_room sizes)) (j : ℕ) (fence : Fence) (made : List Fence) (inv : (fence ≡ fence_before sizes (list_at sizes words value) j) × (made ≡ made_to words fences value req.0 j)) (less : j < sizes.fences) (r2 : Fence) (e2 : r2 ≡ fence_at sizes (list_at sizes words value) j) (fences3 : List Fence) (e3 : fences3 ≡ set made ((value * sizes.fences) + j) (fence_of r2.place r2.first)) → (r2 ≡ fence_before sizes (list_at sizes words value) (j + 1)) × (fences3 ≡ made_to words fences value req.0 (j + 1))
-loop-keep words fences sizes value req j fence made inv less r2 e2 fences3 e3 = (goes_on_lem words fences value req.0 j r2 e2, makes words fences value req.0 j less made inv.1 r2 e2 fences3 e3)
+loop-keep words fences sizes value req j fence made inv less r2 e2 fences3 e3 = (goes_on words fences value req.0 j r2 e2, makes words fences value req.0 j less made inv.1 r2 e2 fences3 e3)
 
 exit-1 : (words : List ℕ) (fences : List Fence) (sizes : Sizes) (value : ℕ) (req : Fenced sizes (length words) (length fences) value × (value_length (block_at sizes words value) ≤ value_room sizes)) (j : ℕ) (fence : Fence) (made : List Fence) (inv : (fence ≡ fence_before sizes (list_at sizes words value) j) × (made ≡ made_to words fences value req.0 j)) (all : j ≡ sizes.fences) → made ≡ renewed sizes words fences value
 exit-1 words fences sizes value req j fence made inv all = all_made words fences value req.0 j made inv.1 all

@@ -1,0 +1,16 @@
+-- `read_update` meets its contract: a length past the room is damage, and else the answer is the walk's over U. Assumes nothing.
+use mathlib.Core.Path.{◌∙◌}
+use native.Mathlib.Omega.{arith}
+use Rattle.block_read.proofs.read.Exits.{update_long, update_walked}
+use borrow.Author.Rules.{rules}
+use Rattle.block_read.proofs.read.read_update.Goals as goal
+
+pub returns-then-room-update_length : goal.returns-then-room-update_length
+returns-then-room-update_length c = let start = c in update_long start.args.sizes start.args.block.now start.args.group (omega (arith, start.requires.0.update_room_is))
+
+pub returns : goal.returns
+returns c =
+    let start = c in
+    c.read_from.ensures
+    ∙ update_walked start.args.sizes start.args.block.now start.args.group (omega (arith, start.requires.0.update_room_is))
+    _ c.update_list.ensures _ start.requires.0.update_room_is

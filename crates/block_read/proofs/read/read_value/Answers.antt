@@ -1,0 +1,39 @@
+-- `read_value` meets its contract: a length past V's room or a place past the length is damage, and else the answer is the walk's over V from the place on.
+-- Assumes nothing.
+use mathlib.Core.Path.{◌≡◌, ◌∙◌, ap}
+use Prim.Native.Nat.{◌≤◌}
+use native.Mathlib.Omega.{arith}
+use lib.ListN.{length}
+use Rattle.blocks.specs.Block.{value_length}
+use Rattle.blocks.proofs.Blocks.{length-value_list}
+use Rattle.block_read.proofs.read.Exits.{value_long, value_misplaced, value_walked}
+use borrow.Author.Rules.{rules}
+use Rattle.block_read.proofs.read.read_value.Goals as goal
+
+pub returns-then-sizes-length : goal.returns-then-sizes-length
+returns-then-sizes-length c = let start = c in value_long start.args.sizes start.args.block.now start.args.group start.args.fence (omega arith)
+
+pub returns-then-length-place : goal.returns-then-length-place
+returns-then-length-place c = let start = c in value_misplaced start.args.sizes start.args.block.now start.args.group start.args.fence (omega arith) (omega arith)
+
+pub slice_bounds-read_from-count : goal.slice_bounds-read_from-count
+slice_bounds-read_from-count c =
+    let long : length c.value_list-list.result.now ≡ c.value_length-length.result =
+      let start = c in
+      let value = c.value_length-length in
+      ap length c.value_list-list.ensures ∙ length-value_list start.args.sizes start.args.block.now start.requires.1 (omega arith) ∙ omega arith in
+    omega (arith, long)
+
+pub slice_bounds-read_from-start : goal.slice_bounds-read_from-start
+slice_bounds-read_from-start c =
+    let long : length c.value_list-list.result.now ≡ c.value_length-length.result =
+      let start = c in
+      let value = c.value_length-length in
+      ap length c.value_list-list.ensures ∙ length-value_list start.args.sizes start.args.block.now start.requires.1 (omega arith) ∙ omega arith in
+    omega (arith, long)
+
+pub returns : goal.returns
+returns c =
+    let start = c in
+    c.read_from.ensures
+    ∙ value_walked start.args.sizes start.args.block.now start.args.group start.args.fence (omega arith) (omega arith) _ c.value_list-list.ensures

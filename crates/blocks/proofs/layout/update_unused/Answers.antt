@@ -1,0 +1,13 @@
+-- `update_unused` meets its contract: the slice is what U leaves unused. Assumes nothing.
+use mathlib.Core.Path.{refl}
+use native.Mathlib.Omega.{arith}
+use Rattle.blocks.proofs.Parts.{update_unused_slice}
+use borrow.Author.Rules.{rules}
+use Rattle.blocks.proofs.layout.update_unused.Goals as goal
+
+pub returns : goal.returns
+returns c = let start = c in update_unused_slice start.args.sizes start.args.block.now _ _ refl (omega arith)
+-- LOST part-result-start : tie.Need-slice-bounds-result-start
+-- part-result-start c = search rules
+-- LOST part-result-end : tie.Need-slice-bounds-result-end
+-- part-result-end c = search rules

@@ -1,0 +1,45 @@
+-- `put_update` stores the length and copies the room: together the block with another U.
+use mathlib.Core.Path.{refl, ◌∙◌, sym}
+use Prim.Native.Nat.{◌+◌}
+use native.Mathlib.Omega.{arith}
+use lib.ListN.{take, length-set}
+use lib.Seq.{length-take-le}
+use Rattle.blocks.specs.Sizes.{value_room}
+use Rattle.blocks.proofs.put.Stores.{copy_fits, stored, stored_long, update_writes}
+use borrow.Author.Rules.{rules}
+use Rattle.blocks.proofs.put.put_update.Goals as goal
+
+pub slice_bounds-copy-end : goal.slice_bounds-copy-end
+slice_bounds-copy-end c =
+    let start = c.before.before.before.before in
+    let a = start.args in
+    sym (length-take-le a.sizes.update_room a.room.now (omega arith))
+
+pub copy-requires : goal.copy-requires
+copy-requires c =
+    let start = c.before.before.before.before.before in
+    let a = start.args in
+    copy_fits a.block.now 1 a.count (2 + value_room a.sizes) a.room.now a.sizes.update_room (omega arith) (omega arith)
+
+pub shape_of-block : goal.shape_of-block
+shape_of-block c =
+    let start = c.before.before.before.before.before.before.before.before in
+    let a = start.args in
+    let copy = c.copy in
+    stored_long a.block.now 1 a.count (2 + value_room a.sizes) a.room.now a.sizes.update_room (omega arith) (omega arith) (omega arith) copy.new.out copy.ensures
+
+pub returns : goal.returns
+returns c =
+    let start = c.before.before.before.before.before.before.before.before in
+    let a = start.args in
+    let copy = c.copy in
+    stored a.block.now 1 a.count (2 + value_room a.sizes) a.room.now a.sizes.update_room (omega arith) (omega arith) (omega arith) copy.new.out copy.ensures
+    ∙ update_writes a.sizes a.count (take a.sizes.update_room a.room.now) a.block.now start.requires.1
+    (length-take-le a.sizes.update_room a.room.now (omega arith) ∙ start.requires.0.update_room_is)
+    ∙ rw start.requires.0.update_room_is refl
+-- LOST part-copy-start : tie.Need-slice-bounds-copy-start
+-- part-copy-start c = search rules
+-- LOST part-copy-end : tie.Need-slice-bounds-copy-end
+-- part-copy-end c =
+--     let start = c.before.before.before.before in
+--     omega (arith, length-set start.args.block.now 1 start.args.count)

@@ -1,0 +1,43 @@
+-- `put_value` stores the length and copies the room: together the block with another V.
+use mathlib.Core.Path.{◌∙◌, sym}
+use native.Mathlib.Omega.{arith}
+use lib.ListN.{take, length-set}
+use lib.Seq.{length-take-le}
+use Rattle.blocks.specs.Sizes.{value_room}
+use Rattle.blocks.proofs.put.Stores.{copy_fits, stored, stored_long, value_writes}
+use borrow.Author.Rules.{rules}
+use Rattle.blocks.proofs.put.put_value.Goals as goal
+
+pub slice_bounds-copy-end : goal.slice_bounds-copy-end
+slice_bounds-copy-end c =
+    let start = c.before.before.before in
+    let a = start.args in
+    sym (length-take-le (value_room a.sizes) a.room.now (omega arith))
+
+pub copy-requires : goal.copy-requires
+copy-requires c =
+    let start = c.before.before.before.before in
+    let a = start.args in
+    copy_fits a.block.now 0 a.count 2 a.room.now (value_room a.sizes) (omega arith) (omega arith)
+
+pub shape_of-block : goal.shape_of-block
+shape_of-block c =
+    let start = c.before.before.before.before.before.before.before in
+    let a = start.args in
+    let copy = c.copy in
+    stored_long a.block.now 0 a.count 2 a.room.now (value_room a.sizes) (omega arith) (omega arith) (omega arith) copy.new.out copy.ensures
+
+pub returns : goal.returns
+returns c =
+    let start = c.before.before.before.before.before.before.before in
+    let a = start.args in
+    let copy = c.copy in
+    stored a.block.now 0 a.count 2 a.room.now (value_room a.sizes) (omega arith) (omega arith) (omega arith) copy.new.out copy.ensures
+    ∙ value_writes a.sizes a.count (take (value_room a.sizes) a.room.now) a.block.now start.requires.1
+    (length-take-le (value_room a.sizes) a.room.now (omega arith))
+-- LOST part-copy-start : tie.Need-slice-bounds-copy-start
+-- part-copy-start c = search rules
+-- LOST part-copy-end : tie.Need-slice-bounds-copy-end
+-- part-copy-end c =
+--     let start = c.before.before.before in
+--     omega (arith, length-set start.args.block.now 0 start.args.count)

@@ -1,0 +1,37 @@
+-- `unpack_into` meets its contract. The loop's invariant is `Unpacking`: the rows of the words read stand in the output. Assumes nothing.
+use Prim.Native.Nat.{◌-◌}
+use native.Mathlib.Omega.{arith}
+use lib.ListN.{length}
+use Rattle.packs.proofs.unpacking.Loop.{Unpacking, begin, part-fits, next_word, ends}
+use Rattle.packs.proofs.unpacking.unpack_into.Goals as goal
+
+pub loop-i-init : goal.loop-i-init
+loop-i-init c = begin c.args.list.now c.args.out.now
+
+pub end_of-end-requires : goal.end_of-end-requires
+end_of-end-requires c = (omega arith, omega arith)
+
+pub slice_bounds-put_word-count : goal.slice_bounds-put_word-count
+slice_bounds-put_word-count c = omega (arith, c.end_of-end.ensures)
+
+pub put_word-requires : goal.put_word-requires
+put_word-requires c =
+    let l = c.loop-i in
+    part-fits l.invariant c.loop-i-test.true c.end_of-end.result c.end_of-end.ensures
+
+pub loop-i-preserved : goal.loop-i-preserved
+loop-i-preserved c =
+    let l = c.loop-i in
+    let end = c.end_of-end in
+    let rows = c.put_word in
+    next_word l.invariant c.loop-i-test.true end.result end.ensures rows.new.out rows.ensures
+
+pub shape_of-out : goal.shape_of-out
+shape_of-out c = c.loop-i.invariant.same
+
+pub returns : goal.returns
+returns c = ends c.loop-i.invariant (omega arith) c.requires.1
+-- LOST part-put-word-start : tie.Need-slice-bounds-put-word-start invariant-loop decreases-loop
+-- part-put-word-start c = omega (arith, c.end_of_lem.ensures)
+-- LOST part-put-word-end : tie.Need-slice-bounds-put-word-end invariant-loop decreases-loop
+-- part-put-word-end c = omega (arith, c.end_of_lem.ensures)
