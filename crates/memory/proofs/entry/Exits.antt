@@ -3,7 +3,7 @@ use mathlib.Core.Path.{◌≡◌, refl, sym, ◌∙◌}
 use mathlib.Core.Bool.{Bool, true, false, not}
 use Prim.Native.Nat.{ℕ, ◌*◌, ◌<◌, ◌≤◌}
 use lib.Dec.{leb}
-use borrow.Author.Tests.{not-true, not-false, le-leb, lt-leb}
+use borrow.Author.Tests.{not-false, le-leb, lt-leb}
 use Rattle.answers.specs.declared.Refusal.TheVariants.{BadHeader, Small}
 use Rattle.blocks.specs.Sizes.{block_size, fence_count}
 use Rattle.blocks.specs.declared.sizes.Sizes.{Sizes}
@@ -15,11 +15,11 @@ use Rattle.memory.specs.declared.entry.Entry.TheVariants.{Ready, Stop}
 -- ---- a test that a function answered
 
 module _ {answer test : Bool} (told : answer ≡ test) where
-  pub failed : not answer ≡ true → test ≡ false
-  failed e = sym told ∙ not-true answer e
+  pub failed : answer ≡ false → test ≡ false
+  failed e = sym told ∙ e
 
-  pub held : not answer ≡ false → test ≡ true
-  held e = sym told ∙ not-false answer e
+  pub held : answer ≡ true → test ≡ true
+  held e = sym told ∙ e
 
 -- ---- the entry into an index
 

@@ -1,0 +1,28 @@
+-- `merge` leaves V xor U, made in an array of zeros, in V's room, and the all_zero_lem list in U's.
+use native.Mathlib.Omega.{arith}
+use borrow.Author.Rules.{rules}
+use Rattle.words.specs.Words.{encode}
+use Rattle.blocks.specs.Block.{current}
+use Rattle.block_change.specs.Change.{merged}
+use Rattle.blocks.proofs.EmptyUpdates.{emptied-written}
+use Rattle.blocks.proofs.WholeLists.{current-fits}
+use Rattle.block_change.proofs.change.merge.Goals as goal
+
+pub put_value-requires : goal.put_value-requires
+put_value-requires c =
+    let start = c in
+    let fits = current-fits start.args.sizes start.requires.0 start.args.block.now start.requires.2 in
+    search rules
+
+pub returns : goal.returns
+unfolding merged
+returns c =
+    let start = c in
+    let a = start.args in
+    let made = c.current_into-count in
+    let put = c.put_value in
+    let cleared = c.clear_update in
+    emptied-written a.sizes start.requires.0 (encode (current a.sizes a.block.now))
+    (current-fits a.sizes start.requires.0 a.block.now start.requires.2) a.block.now start.requires.1
+    made.result 4096 made.new.out put.new.block cleared.new.block
+    made.ensures.0 (omega arith) made.ensures.1 put.ensures cleared.ensures

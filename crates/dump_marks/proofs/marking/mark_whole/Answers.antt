@@ -1,0 +1,22 @@
+-- `mark_whole` meets its contract. The loop's invariant is `Passing`: the rows before `row` are told and marked. Assumes nothing.
+use Prim.Native.Nat.{◌-◌}
+use native.Mathlib.Omega.{arith}
+use Rattle.dump_marks.specs.Inner.{free_in_groups, marked_in_groups, groups_hold, groups_marked, alike}
+use Rattle.dump_marks.proofs.marking.Passing.{Passing, begin, ends}
+use Rattle.dump_marks.proofs.marking.Whole.{next-many}
+use Rattle.dump_marks.proofs.marking.mark_whole.Goals as goal
+
+pub loop-row-init : goal.loop-row-init
+loop-row-init c = begin _ _ c.args.rows.now
+
+pub loop-row-preserved : goal.loop-row-preserved
+loop-row-preserved c =
+    let loop = c.loop-row in
+    next-many _ _ loop.invariant (omega arith) (omega arith) _ _ c.by_bit-free.ensures c.by_bit.ensures
+
+pub shape_of-rows : goal.shape_of-rows
+shape_of-rows c = c.loop-row.invariant.same
+
+pub returns : goal.returns
+unfolding groups_hold groups_marked
+returns c = let all = ends _ _ c.loop-row.invariant (omega arith) in (all.0, λ held. all.1)

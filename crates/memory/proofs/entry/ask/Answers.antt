@@ -1,0 +1,10 @@
+-- `ask` meets its contract: a stop stays, and a check that applies stops what is ready. Assumes nothing.
+use mathlib.Core.Path.{refl}
+use borrow.Author.Rules.{rules}
+use Rattle.memory.proofs.entry.ask.Goals as goal
+
+pub returns-then-applies : goal.returns-then-applies
+returns-then-applies c = rw (c.in-Ready.is, c.if-applies.true) refl
+
+pub returns : goal.returns
+returns c = rw (c.in-Ready.is, c.if-applies.false) refl

@@ -1,0 +1,61 @@
+-- `find_fence` meets its contract: the search goes on from the fence before. Assumes nothing.
+use mathlib.Core.Path.{◌≡◌, ap, sym, ◌∙◌}
+use mathlib.Core.List.{List}
+use Prim.Native.Nat.{ℕ, ◌*◌, ◌≤◌}
+use native.Mathlib.Omega.{arith}
+use borrow.Author.Rules.{rules}
+use Rattle.blocks.specs.Block.{value_list}
+use Rattle.blocks.proofs.SizeLaws.{few-groups, few_fences, fence_group}
+use Rattle.block_read.specs.Fences.{locate_from}
+use Rattle.block_read.specs.declared.fence.Fence.{Fence}
+use Rattle.block_read.proofs.FenceLaws.{Stands, stands_place}
+use Rattle.memory.specs.Memory.{block_at, list_at}
+use Rattle.memory.proofs.FenceRecords.{before_stands, before_finds}
+use Rattle.memory.proofs.Places.{length-block_at}
+use Rattle.memory.proofs.fence.find_fence.Goals as goal
+
+pub overflow_cast-group : goal.overflow_cast-group
+overflow_cast-group c =
+    let few-j : c.args.j ≤ 4096 =
+      let sizes = c.args.sizes in
+      omega (arith, few_fences sizes c.requires.0, few-groups sizes c.requires.0, c.requires.3) in
+    omega (arith, few-j)
+
+pub overflow_mul-group : goal.overflow_mul-group
+overflow_mul-group c =
+    let few-group : c.args.j * c.args.sizes.spacing ≤ 4096 =
+      let sizes = c.args.sizes in
+      omega (arith, fence_group sizes c.requires.0 c.args.j c.requires.3, few-groups sizes c.requires.0) in
+    omega (arith, few-group)
+
+pub next_fence-requires : goal.next_fence-requires
+next_fence-requires c =
+    let list : List ℕ =
+      list_at c.args.sizes c.args.words.now c.args.value in
+    let stands : Stands (list) (c.args.j * c.args.sizes.spacing) c.args.before =
+      rw c.requires.4 (before_stands c.args.sizes (list) c.args.j) in
+    let few-group : c.args.j * c.args.sizes.spacing ≤ 4096 =
+      let sizes = c.args.sizes in
+      omega (arith, fence_group sizes c.requires.0 c.args.j c.requires.3, few-groups sizes c.requires.0) in
+    let start = c in
+    let a = start.args in
+    let stand = stands in
+    let is = c.block_of.ensures in (
+      start.requires.0,
+      rw is (length-block_at a.sizes a.words.now a.value start.requires.1),
+      rw is start.requires.2,
+      rw is (stands_place a.sizes (block_at a.sizes a.words.now a.value) _ a.before stand),
+      stand.early,
+      few-group,
+    )
+
+pub returns : goal.returns
+returns c =
+    let list : List ℕ =
+      list_at c.args.sizes c.args.words.now c.args.value in
+    let start = c in
+    let a = start.args in
+    let group = a.j * a.sizes.spacing in
+    let here = ap (λ (block : List ℕ). locate_from (value_list a.sizes block) a.before group) c.block_of.ensures in
+    let before = ap (λ (fence : Fence). locate_from (list) fence group) start.requires.4 in
+    c.next_fence.ensures ∙ here ∙ before ∙ before_finds a.sizes (list) a.j

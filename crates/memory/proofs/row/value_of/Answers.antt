@@ -1,0 +1,22 @@
+-- `value_of` meets its contract: each exit is a test of the row. Assumes nothing.
+use mathlib.Core.Path.{refl, sym, ◌∙◌}
+use borrow.Author.Rules.{rules}
+use borrow.Author.Tests.{eq-eqb, ne_eqb}
+use Rattle.memory.specs.Reading.{value_of}
+use Rattle.memory.proofs.row.value_of.Goals as goal
+
+pub returns-then-is_damaged : goal.returns-then-is_damaged
+unfolding value_of
+returns-then-is_damaged c = rw (sym c.is_damaged.ensures ∙ c.if-is_damaged.true) c.refused.ensures
+
+pub returns-then-row-eq0 : goal.returns-then-row-eq0
+unfolding value_of
+returns-then-row-eq0 c =
+    let read = c in
+    rw (sym read.is_damaged.ensures ∙ c.if-is_damaged.false, eq-eqb read.args.row.holders 0 c.if-row-eq0.true) refl
+
+pub returns : goal.returns
+unfolding value_of
+returns c =
+    let read = c in
+    rw (sym read.is_damaged.ensures ∙ c.if-is_damaged.false, ne_eqb read.args.row.holders 0 c.if-row-eq0.false) refl
