@@ -1,0 +1,56 @@
+-- `enter_whole` meets its contract: DAMAGED behind the checks of a value, whose block lies inside the words once they pass. Assumes nothing.
+use mathlib.Core.Path.{◌≡◌, ◌∙◌, ap, sym}
+use lib.ListN.{length}
+use borrow.Author.Rules.{rules}
+use Rattle.blocks.specs.Inner.{whole_of}
+use Rattle.memory.specs.Inner.{Fenced}
+use Rattle.memory.specs.Memory.{block_at}
+use Rattle.memory.proofs.Places.{length-block_at}
+use Rattle.change_value.proofs.value.Exits.{stopped, inside, faulty, intact}
+use Rattle.change_value.proofs.value.enter_whole.Goals as goal
+
+pub returns-in_default : goal.returns-in_default
+returns-in_default c =
+    let a = c.args in
+    let call = c.enter_value-entry in
+    stopped a.words.now a.fences a.header a.value call.result call.ensures _ c.in_default.is
+
+pub block_of-requires : goal.block_of-requires
+block_of-requires c =
+    let block_inside : let a = c.args in Fenced c.in-Ready.sizes (length a.words.now) a.fences a.value =
+      let a = c.args in
+      let call = c.enter_value-entry in
+      inside a.words.now a.fences a.header a.value call.result call.ensures _ c.in-Ready.is in
+    let is = block_inside in (is.limits, is.inside)
+
+pub check_lists-requires : goal.check_lists-requires
+check_lists-requires c =
+    let block_inside : let a = c.args in Fenced c.in-Ready.sizes (length a.words.now) a.fences a.value =
+      let a = c.args in
+      let call = c.enter_value-entry in
+      inside a.words.now a.fences a.header a.value call.result call.ensures _ c.in-Ready.is in
+    let a = c.args in
+    let is = block_inside in
+    (is.limits, ap length c.block_of.ensures ∙ length-block_at _ a.words.now a.value is.inside)
+
+pub returns-in_default-check_lists : goal.returns-in_default-check_lists
+returns-in_default-check_lists c =
+    let finds : let entry = c in let a = entry.args in let sizes = entry.in-Ready.sizes in c.check_lists.result ≡ whole_of sizes (block_at sizes a.words.now a.value) =
+      rw c.block_of.ensures at c.check_lists.ensures in
+    let check = c in
+    let entry = check in
+    let a = entry.args in
+    let call = entry.enter_value-entry in
+    faulty a.words.now a.fences a.header a.value call.result call.ensures _ entry.in-Ready.is
+    (sym c.in_default-check_lists.is ∙ finds)
+
+pub returns : goal.returns
+returns c =
+    let finds : let entry = c in let a = entry.args in let sizes = entry.in-Ready.sizes in c.check_lists.result ≡ whole_of sizes (block_at sizes a.words.now a.value) =
+      rw c.block_of.ensures at c.check_lists.ensures in
+    let check = c in
+    let entry = check in
+    let a = entry.args in
+    let call = entry.enter_value-entry in
+    intact a.words.now a.fences a.header a.value call.result call.ensures _ entry.in-Ready.is
+    _ (sym c.in-Intact.is ∙ finds)

@@ -1,0 +1,54 @@
+-- `merge_value` merges the block of the value, which it lends.
+use mathlib.Core.Path.{◌∙◌, ap}
+use Prim.Native.Nat.{◌+◌, ◌*◌, ◌≤◌}
+use native.Mathlib.Omega.{arith}
+use lib.ListN.{length}
+use borrow.Author.Rules.{rules}
+use Rattle.block_change.specs.Change.{merged}
+use Rattle.block_change.proofs.Merging.{length_merged}
+use Rattle.memory.specs.Memory.{block_at}
+use Rattle.memory.proofs.Places.{length-block_at, inside_words}
+use Rattle.change_value.specs.Change.{whole, merged_words}
+use Rattle.change_value.proofs.value.Lent.{lent-block, put_back}
+use Rattle.change_value.proofs.value.merge_value.Goals as goal
+
+pub overflow_mul-at : goal.overflow_mul-at
+overflow_mul-at c =
+    let within : c.args.value * c.args.sizes.block + c.args.sizes.block ≤ length c.args.words.now =
+      inside_words c.args.sizes c.requires.0 (length c.args.words.now) c.args.value c.requires.1 in
+    omega (arith, within)
+
+pub overflow_add-end : goal.overflow_add-end
+overflow_add-end c =
+    let within : c.args.value * c.args.sizes.block + c.args.sizes.block ≤ length c.args.words.now =
+      inside_words c.args.sizes c.requires.0 (length c.args.words.now) c.args.value c.requires.1 in
+    omega (arith, within)
+
+pub offset_bounds-words-at : goal.offset_bounds-words-at
+offset_bounds-words-at c =
+    let within : c.args.value * c.args.sizes.block + c.args.sizes.block ≤ length c.args.words.now =
+      inside_words c.args.sizes c.requires.0 (length c.args.words.now) c.args.value c.requires.1 in
+    omega (arith, within)
+
+pub slice_bounds-merge-end : goal.slice_bounds-merge-end
+slice_bounds-merge-end c =
+    let within : c.args.value * c.args.sizes.block + c.args.sizes.block ≤ length c.args.words.now =
+      inside_words c.args.sizes c.requires.0 (length c.args.words.now) c.args.value c.requires.1 in
+    omega (arith, within)
+
+pub merge-requires : goal.merge-requires
+unfolding whole
+merge-requires c =
+    let start = c in
+    let a = start.args in
+    let same = lent-block a.sizes start.requires.0 a.words.now a.value in
+    (start.requires.0, ap length same ∙ length-block_at a.sizes a.words.now a.value start.requires.1, rw same start.requires.2)
+
+pub returns : goal.returns
+unfolding merged_words whole
+returns c =
+    let start = c in
+    let a = start.args in
+    let merge = c.merge in
+    put_back a.sizes start.requires.0 a.words.now a.value (merged a.sizes)
+    (length_merged a.sizes start.requires.0 (block_at a.sizes a.words.now a.value) start.requires.2) merge.new.block merge.ensures
