@@ -1,5 +1,4 @@
 pub mod Every
 pub mod Taken
 pub mod Taking
-pub mod Tests
 pub mod Visits

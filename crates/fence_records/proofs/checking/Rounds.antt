@@ -27,10 +27,15 @@ use Rattle.memory.proofs.Places.{planned_lent, one_more, numbers, header-limits,
 use Rattle.fence_records.proofs.Every.{every_holds, holds_every}
 use Rattle.fence_records.proofs.Taken.{taken_before, apart_up_to, apart_stops, SoundUpTo, apart-holders}
 use Rattle.fence_records.proofs.Taking.{Taking, taking_begins, taking_on}
-use Rattle.fence_records.proofs.Tests.{is_false, is_true}
 
 contradicts : {P : Type 0} (test : Bool) → test ≡ true → test ≡ false → P
 contradicts test holds fails = absurd (let z : ◌≡◌ {A = ℕ} 0 1 = cc in omega arith)
+
+-- the first values are sound, no row is in two of them, and their rows are taken
+pub record Audited (header : Header) (words : List ℕ) (fences : List Fence) (value : ℕ) (now : List ℕ) : Type 0 where
+  pub values : (before : ℕ) → before < value → sound_value header (memory_of words fences) before ≡ true
+  pub apart_so_far : apart_up_to header words value ≡ true
+  pub taking : Taking header words value now
 
 module _ {header : Header} {sizes : Sizes} (words : List ℕ) (fences : List Fence) (is : Planned header sizes (length words) (length fences)) where
   abbrev memory : Memory
@@ -94,13 +99,7 @@ module _ {header : Header} {sizes : Sizes} (words : List ℕ) (fences : List Fen
 
   -- ---- the loop
 
-  -- the first values are sound, no row is in two of them, and their rows are taken
-  pub record Audited (value : ℕ) (now : List ℕ) : Type 0 where
-    pub values : (before : ℕ) → before < value → sound_value header memory before ≡ true
-    pub apart_so_far : apart_up_to header words value ≡ true
-    pub taking : Taking header words value now
-
-  pub none_audited : (taken : List ℕ) → taken ≡ replicate 4096 0 → Audited 0 taken
+  pub none_audited : (taken : List ℕ) → taken ≡ replicate 4096 0 → Audited header words fences 0 taken
   none_audited taken clear =
       record {
         values = λ before h. absurd (omega arith);
@@ -108,7 +107,7 @@ module _ {header : Header} {sizes : Sizes} (words : List ℕ) (fences : List Fen
         taking = rw clear (taking_begins header words 4096 (few-groups (sizes_of header) (header-limits is)));
       }
 
-  module _ (value : ℕ) (below : value < header.values) (now : List ℕ) (so_far : Audited value now) where
+  module _ (value : ℕ) (below : value < header.values) (now : List ℕ) (so_far : Audited header words fences value now) where
     pub value_asks : Fenced sizes (length words) (length fences) value × (header.issued ≤ sizes.rows) × Groups now × (sizes.groups ≤ length now)
     value_asks = (
       fenced is value below,
@@ -126,16 +125,16 @@ module _ {header : Header} {sizes : Sizes} (words : List ℕ) (fences : List Fen
       unfolding rows_in
       answer_is = rw (← so_far.taking.front) (told ∙ rw is.planned refl)
 
-      pub value_fails : T (not fine) → false ≡ is_sound header memory
-      value_fails fails = sym (not_sound value below (sym answer_is ∙ is_false fine fails))
+      pub value_fails : fine ≡ false → false ≡ is_sound header memory
+      value_fails fails = sym (not_sound value below (sym answer_is ∙ fails))
 
-      pub value_audited : T (not (not fine))
+      pub value_audited : fine ≡ true
           → (fine ≡ true
           → left ≡ combined either (take sizes.groups now) (current sizes (block_at sizes words value)) ++ drop sizes.groups now)
-          → Audited (value + 1) left
+          → Audited header words fences (value + 1) left
       unfolding rows_in
       value_audited holds takes =
-          let here = (and-eq-true_iff (lists value && alone value) (right value)).0 (sym answer_is ∙ is_true fine holds) in
+          let here = (and-eq-true_iff (lists value && alone value) (right value)).0 (sym answer_is ∙ holds) in
           let first = (and-eq-true_iff (lists value) (alone value)).0 here.0 in
           let this-sound : sound_value header memory value ≡ true = same_value value ∙ rw (first.0, here.1) refl in
           let all : (before : ℕ) → before < suc value → sound_value header memory before ≡ true =
@@ -148,10 +147,10 @@ module _ {header : Header} {sizes : Sizes} (words : List ℕ) (fences : List Fen
           (record {
             values = all;
             apart_so_far = rw (so_far.apart_so_far, first.1) refl;
-            taking = taking_on so_far.taking (header-limits is) sounds left (takes (is_true fine holds) ∙ rw is.planned refl);
+            taking = taking_on so_far.taking (header-limits is) sounds left (takes holds ∙ rw is.planned refl);
           })
 
-  pub all_audited : (value : ℕ) → value ≡ header.values → (now : List ℕ) → Audited value now → true ≡ is_sound header memory
+  pub all_audited : (value : ℕ) → value ≡ header.values → (now : List ℕ) → Audited header words fences value now → true ≡ is_sound header memory
   unfolding is_sound
   all_audited value all now done =
       let each : every header.values (sound_value header memory) ≡ true =
@@ -179,12 +178,12 @@ module _ (sizes : Sizes) (words : List ℕ) (fences : List Fence) (issued value 
   more = combined either (take sizes.groups taken) (current sizes (block_at sizes words value)) ++ drop sizes.groups taken
 
   module _ (fine : Bool) (left : List ℕ) (listed : (fine ≡ (sounds && free)) × (fine ≡ true → left ≡ more)) where
-    pub lists_fail : T (not fine) → (false ≡ (sounds && free && fits)) × (false ≡ true → left ≡ more)
-    lists_fail fails = (rw (sym listed.0 ∙ is_false fine fails) refl, λ e. contradicts true refl (sym e))
+    pub lists_fail : fine ≡ false → (false ≡ (sounds && free && fits)) × (false ≡ true → left ≡ more)
+    lists_fail fails = (rw (sym listed.0 ∙ fails) refl, λ e. contradicts true refl (sym e))
 
-    module _ (holds : T (not (not fine))) where
+    module _ (holds : fine ≡ true) where
       both_hold : sounds && free ≡ true
-      both_hold = sym listed.0 ∙ is_true fine holds
+      both_hold = sym listed.0 ∙ holds
 
       pub fences_ask : Fenced sizes (length words) (length fences) value × (value_length (block_at sizes words value) ≤ value_room sizes)
       fences_ask =
@@ -192,4 +191,4 @@ module _ (sizes : Sizes) (words : List ℕ) (fences : List Fence) (issued value 
           (inside, (whole_parts sizes (block_at sizes words value) (sound_parts sizes issued (block_at sizes words value) holds-lists).whole).value_short)
 
       pub fences_tell : (same : Bool) → same ≡ fits → (same ≡ (sounds && free && fits)) × (same ≡ true → left ≡ more)
-      fences_tell same compared = (compared ∙ rw both_hold refl, λ e. listed.1 (is_true fine holds))
+      fences_tell same compared = (compared ∙ rw both_hold refl, λ e. listed.1 holds)

@@ -18,10 +18,19 @@ use Rattle.block_read.specs.declared.fence.Fence.{Fence}
 use Rattle.blocks.specs.declared.sizes.Sizes.{Sizes}
 use Rattle.fence_records.proofs.Visits.{next_fence_holds, next_fence_marked, fences_stop, next-value_holds, next-value_marked, values_stop}
 use Rattle.memory.proofs.Places.{numbers, fenced, fences_bound}
-use Rattle.fence_records.proofs.Tests.{is_false, is_true}
 
 not_true : {P : Type 0} → false ≡ true → P
 not_true e = absurd (let z : ◌≡◌ {A = ℕ} 0 1 = cc in omega arith)
+
+-- the first j fences of a value are visited, and no row is damaged
+pub record FencesSeen (header : Header) (memory : Memory) (value : ℕ) (rows : List ℕ) (j : ℕ) (now : List ℕ) : Type 0 where
+  pub hold : fences_hold header memory value rows j ≡ true
+  pub marked : now ≡ marked_fences header memory value rows j
+
+-- the first values are visited, and no row is damaged
+pub record ValuesSeen (header : Header) (memory : Memory) (rows : List ℕ) (value : ℕ) (now : List ℕ) : Type 0 where
+  pub hold : values_hold header memory rows value ≡ true
+  pub marked : now ≡ marked_values header memory rows value
 
 module _ {header : Header} {sizes : Sizes} (words : List ℕ) (fences : List Fence) (is : Planned header sizes (length words) (length fences)) where
   abbrev memory : Memory
@@ -37,12 +46,7 @@ module _ {header : Header} {sizes : Sizes} (words : List ℕ) (fences : List Fen
   -- ---- the fences of a value
 
   module _ (value : ℕ) (below : value < header.values) (rows : List ℕ) (room : header.issued ≤ length rows) where
-    -- the first j are visited, and no row is damaged
-    pub record FencesSeen (j : ℕ) (now : List ℕ) : Type 0 where
-      pub hold : fences_hold header memory value rows j ≡ true
-      pub marked : now ≡ marked_fences header memory value rows j
-
-    pub none_visited : FencesSeen 0 rows
+    pub none_visited : FencesSeen header memory value rows 0 rows
     none_visited = record { hold = refl; marked = refl }
 
     pub first_fits : value * sizes.fences < 2 ^ 64
@@ -64,7 +68,7 @@ module _ {header : Header} {sizes : Sizes} (words : List ℕ) (fences : List Fen
           rw is.planned (omega (arith, less, are.0)),
         )
 
-        module _ (seen : FencesSeen j now) (fence : Fence) (asked : fence ≡ get_or fences (value * sizes.fences + j) no_fence) (fine : Bool) (left : List ℕ)
+        module _ (seen : FencesSeen header memory value rows j now) (fence : Fence) (asked : fence ≡ get_or fences (value * sizes.fences + j) no_fence) (fine : Bool) (left : List ℕ)
             (marks : (fine ≡ fence_holds sizes fence (block_at sizes words value) header.issued j now)
             × (fine ≡ true
             → left ≡ fence_marked sizes fence (block_at sizes words value) header.issued j value now)) where
@@ -75,60 +79,55 @@ module _ {header : Header} {sizes : Sizes} (words : List ℕ) (fences : List Fen
           next =
               next_fence_holds header memory value rows sizes is.planned fence j found now seen.marked seen.hold fine marks.0
 
-          pub fence_seen : T (not (not fine)) → FencesSeen (j + 1) left
+          pub fence_seen : fine ≡ true → FencesSeen header memory value rows (j + 1) left
           fence_seen holds =
-              let holds-here = is_true fine holds in
+              let holds-here = holds in
               record {
                 hold = next ∙ holds-here;
                 marked = next_fence_marked header memory value rows sizes is.planned fence j found now seen.marked left (marks.1 holds-here);
               }
 
-          pub fence_damaged : T (not fine)
+          pub fence_damaged : fine ≡ false
               → (false ≡ fences_hold header memory value rows count) × (false ≡ true → left ≡ marked_fences header memory value rows count)
           fence_damaged fails = (
             sym
-                (fences_stop header memory value rows (j + 1) count (omega (arith, less, are.0)) (next ∙ is_false fine fails)),
+                (fences_stop header memory value rows (j + 1) count (omega (arith, less, are.0)) (next ∙ fails)),
             not_true,
           )
 
-    pub all_visited : (visits : ℕ) → visits ≡ count → (j : ℕ) → j ≡ visits → (now : List ℕ) → FencesSeen j now
+    pub all_visited : (visits : ℕ) → visits ≡ count → (j : ℕ) → j ≡ visits → (now : List ℕ) → FencesSeen header memory value rows j now
         → (true ≡ fences_hold header memory value rows count) × (true ≡ true → now ≡ marked_fences header memory value rows count)
     all_visited visits are j all now seen = rw (← are, ← all) (sym seen.hold, λ e. seen.marked)
 
   -- ---- the values
 
   module _ (rows : List ℕ) (room : header.issued ≤ length rows) where
-    -- the first values are visited, and no row is damaged
-    pub record ValuesSeen (value : ℕ) (now : List ℕ) : Type 0 where
-      pub hold : values_hold header memory rows value ≡ true
-      pub marked : now ≡ marked_values header memory rows value
-
-    pub none_seen : ValuesSeen 0 rows
+    pub none_seen : ValuesSeen header memory rows 0 rows
     none_seen = record { hold = refl; marked = refl }
 
     module _ (value : ℕ) (less : value < header.values) (now : List ℕ) (many : length now ≡ length rows) where
       pub value_asks : Planned header sizes (length words) (length fences) × (value < header.values) × (header.issued ≤ length now)
       value_asks = (is, less, rw many room)
 
-      module _ (seen : ValuesSeen value now) (fine : Bool) (left : List ℕ)
+      module _ (seen : ValuesSeen header memory rows value now) (fine : Bool) (left : List ℕ)
           (marks : (fine ≡ fences_hold header memory value now count) × (fine ≡ true → left ≡ marked_fences header memory value now count)) where
         next-value : values_hold header memory rows (value + 1) ≡ fine
         next-value = next-value_holds header memory rows now value seen.marked seen.hold fine marks.0
 
-        pub value_seen : T (not (not fine)) → ValuesSeen (value + 1) left
+        pub value_seen : fine ≡ true → ValuesSeen header memory rows (value + 1) left
         value_seen holds =
-            let holds-here = is_true fine holds in
+            let holds-here = holds in
             record {
               hold = next-value ∙ holds-here;
               marked = next-value_marked header memory rows now value seen.marked left (marks.1 holds-here);
             }
 
-        pub value_damaged : T (not fine)
+        pub value_damaged : fine ≡ false
             → (false ≡ values_hold header memory rows header.values) × (false ≡ true → left ≡ marked_values header memory rows header.values)
         value_damaged fails =
-            (sym (values_stop header memory rows (value + 1) header.values (omega (arith, less)) (next-value ∙ is_false fine fails)), not_true)
+            (sym (values_stop header memory rows (value + 1) header.values (omega (arith, less)) (next-value ∙ fails)), not_true)
 
-    pub all_seen : (value : ℕ) → value ≡ header.values → (now : List ℕ) → ValuesSeen value now
+    pub all_seen : (value : ℕ) → value ≡ header.values → (now : List ℕ) → ValuesSeen header memory rows value now
         → (true ≡ values_hold header memory rows header.values) × (true ≡ true → now ≡ marked_values header memory rows header.values)
     all_seen value all now seen = (
       sym seen.hold ∙ ap (values_hold header memory rows) all,

@@ -20,7 +20,6 @@ use Rattle.memory.specs.Memory.{list_at, fences_at}
 use Rattle.change_value.specs.Change.{renewed}
 use Rattle.blocks.specs.declared.sizes.Sizes.{Sizes}
 use Rattle.memory.proofs.FenceRecords.{length-fences_from, one_fence_more, all_right, one_wrong}
-use Rattle.mir_walks.proofs.Flow.{fails}
 use Rattle.memory.proofs.Places.{one_more}
 
 module _ {sizes : Sizes} (words : List ℕ) (fences : List Fence) (value : ℕ) (inside : Fenced sizes (length words) (length fences) value) where
@@ -104,21 +103,14 @@ module _ {sizes : Sizes} (words : List ℕ) (fences : List Fence) (value : ℕ) 
     unfolding fences_at
     here = compared ∙ rw (found, asked, same_place, get_d_part fences from count j no_fence (below j less)) refl
 
-    is_true : T (not (not same)) → same ≡ true
-    is_true right = go same right
-      where
-        go : (b : Bool) → T (not (not b)) → b ≡ true
-        go true h = refl
-        go false h = absurd h
-
-    pub right_so_far : T (not (not same)) → RightTo j → RightTo (j + 1)
+    pub right_so_far : same ≡ true → RightTo j → RightTo (j + 1)
     right_so_far right before k h =
-        by_cases (dec_lt k j) (before k) (λ last. let this : k ≡ j = omega (arith, h, last) in rw this (sym here ∙ is_true right))
+        by_cases (dec_lt k j) (before k) (λ last. let this : k ≡ j = omega (arith, h, last) in rw this (sym here ∙ right))
 
-    pub wrong_here : T (not same) → false ≡ right_fences sizes list 0 records
+    pub wrong_here : same ≡ false → false ≡ right_fences sizes list 0 records
     wrong_here wrong =
         sym
-        (one_wrong sizes list records j (rw length-records (below j less)) (sym here ∙ sym (fails same wrong)))
+        (one_wrong sizes list records j (rw length-records (below j less)) (sym here ∙ wrong))
 
   pub all_compared : (j : ℕ) → RightTo j → j ≡ sizes.fences → true ≡ right_fences sizes list 0 records
   all_compared j right all =

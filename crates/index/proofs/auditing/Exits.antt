@@ -19,7 +19,6 @@ use Rattle.blocks.specs.declared.sizes.Sizes.{Sizes}
 use Rattle.memory.specs.declared.entry.Entry.TheVariants.{Ready, Stop}
 use Rattle.memory.proofs.Deciding.{ready_enters, outcome_refuses, stop_refused}
 use Rattle.memory.proofs.Places.{planned_lent}
-use Rattle.fence_records.proofs.Tests.{is_false, is_true}
 
 module _ (words : List ℕ) (fences : List Fence) (header : Header) where
   abbrev memory : Memory
@@ -35,10 +34,10 @@ module _ (words : List ℕ) (fences : List Fence) (header : Header) where
   audit_planned sizes ready = (ready_enters (length words) (length fences) header [] sizes ready).planned
 
   module _ {sizes : Sizes} (is : Planned header sizes (length words) (length fences)) (fine : Bool) (told : fine ≡ is_sound header memory) where
-    pub audit_damaged : T (not fine) → paper (Refused Damaged) ≡ (audit_outcome header memory).answer
+    pub audit_damaged : fine ≡ false → paper (Refused Damaged) ≡ (audit_outcome header memory).answer
     unfolding audit_outcome
-    audit_damaged fails = rw (is.holds, planned_lent is, sym told ∙ is_false fine fails) refl
+    audit_damaged fails = rw (is.holds, planned_lent is, sym told ∙ fails) refl
 
-    pub audit_done : T (not (not fine)) → paper (Done 0) ≡ (audit_outcome header memory).answer
+    pub audit_done : fine ≡ true → paper (Done 0) ≡ (audit_outcome header memory).answer
     unfolding audit_outcome
-    audit_done holds = rw (is.holds, planned_lent is, sym told ∙ is_true fine holds) refl
+    audit_done holds = rw (is.holds, planned_lent is, sym told ∙ holds) refl

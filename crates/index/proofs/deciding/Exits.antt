@@ -32,8 +32,6 @@ use Rattle.memory.proofs.Deciding.{Enters, ready_enters, decided_refuses, stop_r
 use Rattle.memory.proofs.Places.{numbers, fenced}
 use Rattle.memory.proofs.RowLaws.{row-value}
 use Rattle.change_value.specs.Change.{whole, merges_in}
-use Rattle.fence_records.proofs.Tests.{is_false}
-use Rattle.mir_walks.proofs.Flow.{holds}
 use Rattle.index.specs.Calls.{old_value}
 use Rattle.index.specs.Inner.{flips_in, insert_decision, delete_decision, moves_in, update_decision}
 use Rattle.index.specs.declared.deciding.Flipping.{Flipping}
@@ -322,12 +320,12 @@ module _ (words : List ℕ) (fences : List Fence) (header : Header) where
                   ∙ row_passes found read Left (update-behind old_value_lem) (updates old_value_lem) readable old holder
                   ∙ ap (λ (v : ℕ). decided Left (update-behind v) (updates v)) (sym (is_old found read old holder))
 
-              pub update_same : T (eqb old value) → Same ≡ update_decision header memory row value
-              update_same same = rw (by_old, sym (holds (eqb old value) same)) refl
+              pub update_same : eqb old value ≡ true → Same ≡ update_decision header memory row value
+              update_same same = rw (by_old, same) refl
 
-              module _ (differ : T (not (eqb old value))) where
+              module _ (differ : eqb old value ≡ false) where
                 not_same : eqb old value ≡ false
-                not_same = is_false (eqb old value) differ
+                not_same = differ
 
                 row_below : row < header.rows
                 row_below = omega (arith, leb-false header.issued row update_enters.passes.1.0, (numbers update_planned).few_issued)

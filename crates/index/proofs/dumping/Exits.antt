@@ -24,7 +24,6 @@ use Rattle.memory.specs.declared.entry.Entry.TheVariants.{Ready, Stop}
 use Rattle.index.proofs.DumpLaws.{dump_holds, dump_bytes}
 use Rattle.memory.proofs.Deciding.{ready_enters, outcome_refuses, stop_refused}
 use Rattle.memory.proofs.Places.{planned_lent, numbers}
-use Rattle.fence_records.proofs.Tests.{is_false, is_true}
 
 module _ (words : List ℕ) (fences : List Fence) (header : Header) (out : List ℕ) where
   abbrev memory : Memory
@@ -64,14 +63,14 @@ module _ (words : List ℕ) (fences : List Fence) (header : Header) (out : List 
       is_intact : intact ≡ fine
       is_intact = sym (dump_holds header memory (numbers is) row_limit enough) ∙ held
 
-      pub dump_damaged : T (not fine) → Gives (dump_outcome header memory out) (Refused Damaged) out
-      dump_damaged fails = rw (goes_on, is_intact, is_false fine fails) (record { answers = refl; leaves = refl })
+      pub dump_damaged : fine ≡ false → Gives (dump_outcome header memory out) (Refused Damaged) out
+      dump_damaged fails = rw (goes_on, is_intact, fails) (record { answers = refl; leaves = refl })
 
-      pub dump_done : T (not (not fine)) → (answer : Answer) (given : List ℕ) → Gives (rows_given header.issued left out) answer given
+      pub dump_done : fine ≡ true → (answer : Answer) (given : List ℕ) → Gives (rows_given header.issued left out) answer given
           → Gives (dump_outcome header memory out) answer given
       unfolding rows_given
       dump_done holds answer given gives =
-          let is-fine = is_true fine holds in
+          let is-fine = holds in
           let bytes : take header.issued left ≡ bytes_of header memory header.issued =
           rw (marks.1 is-fine, clear) (dump_bytes header memory (numbers is) row_limit enough (held ∙ is-fine)) in
           rw (goes_on, is_intact, is-fine, ← bytes) gives
