@@ -1,0 +1,28 @@
+-- `insert`: what was decided is carried out: a refusal, or a flip of row n.
+use Rattle.index.proofs.changing.Exits.{insert_kept, spare_row, insert_asks, insert_done}
+use Rattle.index.proofs.changing.insert.Goals as goal
+
+pub flip_fenced-requires : goal.flip_fenced-requires
+flip_fenced-requires c =
+    let a = c.args in
+    let flips = c.in-Flips in
+    insert_asks a.words.now a.fences.now a.header a.value flips.sizes flips.into flips.merges flips.ensures
+
+pub grow-requires : goal.grow-requires
+grow-requires c =
+    let a = c.args in
+    let flips = c.in-Flips in
+    spare_row a.words.now a.fences.now a.header a.value flips.sizes flips.into flips.merges flips.ensures
+
+pub returns-in-Kept : goal.returns-in-Kept
+returns-in-Kept c =
+    let a = c.args in
+    insert_kept a.words.now a.fences.now a.header a.value c.in-Kept.refusal c.in-Kept.ensures c.refuse.result c.refuse.ensures
+
+pub returns-in-Flips : goal.returns-in-Flips
+returns-in-Flips c =
+    let a = c.args in
+    let flips = c.in-Flips in
+    let flipped = c.flip_fenced in
+    insert_done a.words.now a.fences.now a.header a.value flips.sizes flips.into flips.merges flips.ensures
+    flipped.new.words flipped.new.fences flipped.ensures c.grow.result c.grow.ensures
