@@ -34,4 +34,4 @@ returns-in-Moves c =
     let twice = c.flip_fenced-in-Moves in
     update-done a.words.now a.fences.now a.header a.row a.value moves.sizes moves.old moves.first moves.second moves.ensures
     once.new.words once.new.fences once.auto.words once.auto.fences once.ensures
-    twice.new.words twice.new.fences twice.ensures c.done.result c.done.ensures
+    twice.new.words twice.new.fences twice.ensures c.done-in-Moves.result c.done-in-Moves.ensures
