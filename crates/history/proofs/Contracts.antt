@@ -10,7 +10,6 @@ use prog.Routine.{Routine}
 use types.Logic.{Logic}
 use contract.Lifetimes.{Lfts}
 use contract.Monad.{Fun, fact}
-use denote.Ref.{Bor}
 use denote.Triple.Clauses.{AtExit}
 use denote.Triple.Entry.{Args, Res}
 use Rattle.answers.specs.declared.Answer.{Answer}
@@ -31,15 +30,15 @@ use Rattle.history.specs.Calls.{Load, Query, Value, Insert, Update, Delete, Merg
 use Rattle.history.specs.Promises.{Left, Written, Promised}
 
 -- the index of a header, with the words and fences lent
-abbrev lent_to : Header → Bor (List ℕ) → Bor (List Fence) → Index
-lent_to header words fences = index_of header (memory_of words.now fences.now)
+abbrev lent_to : Header → List ℕ → List Fence → Index
+lent_to header words fences = index_of header (memory_of words fences)
 
 -- what is left in the words and fences, or in an output
-abbrev left_in : Changed → Bor (List ℕ) → Bor (List Fence) → Left
-left_in changed words fences = record { changed = changed; words = words.now; fences = fences.now }
+abbrev left_in : Changed → List ℕ → List Fence → Left
+left_in changed words fences = record { changed = changed; words = words; fences = fences }
 
-abbrev written_in : Answer → Bor (List ℕ) → Written
-written_in answer out = record { answer = answer; out = out.now }
+abbrev written_in : Answer → List ℕ → Written
+written_in answer out = record { answer = answer; out = out }
 
 module _ {M : Type 1} {𝓤 : Ura M} (𝓛 : Logic 𝓤) (mem : Machine → SProp 𝓤) (run : Routine → Fun 𝓤) where
   -- THEOREM: Load, which takes no header
@@ -47,9 +46,9 @@ module _ {M : Type 1} {𝓤 : Ura M} (𝓛 : Logic 𝓤) (mem : Machine → SPro
     pub load_promises : ((load.clauses 𝓛 mem run κs args).requires tt ≡ emp 𝓤)
         × ((load.clauses 𝓛 mem run κs args).ensures tt r ends
         ≡ fact 𝓤
-        (Promised (lent_to header args.0 args.1.0)
+        (Promised (lent_to header args.0.now args.1.0.now)
         (Load args.1.1.1.0 args.1.1.1.1.0 args.1.1.1.1.1.0 args.1.1.1.1.1.1.0 args.1.1.0.now)
-        (left_in r ends.0 ends.1.0)))
+        (left_in r ends.0.now ends.1.0.now)))
     load_promises = (refl, refl)
 
   -- THEOREM: Query
@@ -57,21 +56,21 @@ module _ {M : Type 1} {𝓤 : Ura M} (𝓛 : Logic 𝓤) (mem : Machine → SPro
     pub query_promises : ((query.clauses 𝓛 mem run κs args).requires tt ≡ emp 𝓤)
         × ((query.clauses 𝓛 mem run κs args).ensures tt r ends
         ≡ fact 𝓤
-        (Promised (lent_to args.1.1.1.0 args.0 args.1.0) (Query args.1.1.1.1.0 args.1.1.0.now) (written_in r ends.1.1.0)))
+        (Promised (lent_to args.1.1.1.0 args.0.now args.1.0.now) (Query args.1.1.1.1.0 args.1.1.0.now) (written_in r ends.1.1.0.now)))
     query_promises = (refl, refl)
 
   -- THEOREM: Value
   module _ (κs : Lfts 2) (args : Args value.signature κs) (r : Res value.signature κs) (ends : AtExit value.ended κs) where
     pub value_promises : ((value.clauses 𝓛 mem run κs args).requires tt ≡ emp 𝓤)
         × ((value.clauses 𝓛 mem run κs args).ensures tt r ends
-        ≡ fact 𝓤 (Promised (lent_to args.1.1.0 args.0 args.1.0) (Value args.1.1.1.0) r))
+        ≡ fact 𝓤 (Promised (lent_to args.1.1.0 args.0.now args.1.0.now) (Value args.1.1.1.0) r))
     value_promises = (refl, refl)
 
   -- THEOREM: Insert
   module _ (κs : Lfts 2) (args : Args insert.signature κs) (r : Res insert.signature κs) (ends : AtExit insert.ended κs) where
     pub insert_promises : ((insert.clauses 𝓛 mem run κs args).requires tt ≡ emp 𝓤)
         × ((insert.clauses 𝓛 mem run κs args).ensures tt r ends
-        ≡ fact 𝓤 (Promised (lent_to args.1.1.0 args.0 args.1.0) (Insert args.1.1.1.0) (left_in r ends.0 ends.1.0)))
+        ≡ fact 𝓤 (Promised (lent_to args.1.1.0 args.0.now args.1.0.now) (Insert args.1.1.1.0) (left_in r ends.0.now ends.1.0.now)))
     insert_promises = (refl, refl)
 
   -- THEOREM: Update
@@ -79,32 +78,32 @@ module _ {M : Type 1} {𝓤 : Ura M} (𝓛 : Logic 𝓤) (mem : Machine → SPro
     pub update_promises : ((update.clauses 𝓛 mem run κs args).requires tt ≡ emp 𝓤)
         × ((update.clauses 𝓛 mem run κs args).ensures tt r ends
         ≡ fact 𝓤
-        (Promised (lent_to args.1.1.0 args.0 args.1.0) (Update args.1.1.1.0 args.1.1.1.1.0) (left_in r ends.0 ends.1.0)))
+        (Promised (lent_to args.1.1.0 args.0.now args.1.0.now) (Update args.1.1.1.0 args.1.1.1.1.0) (left_in r ends.0.now ends.1.0.now)))
     update_promises = (refl, refl)
 
   -- THEOREM: Delete
   module _ (κs : Lfts 2) (args : Args delete.signature κs) (r : Res delete.signature κs) (ends : AtExit delete.ended κs) where
     pub delete_promises : ((delete.clauses 𝓛 mem run κs args).requires tt ≡ emp 𝓤)
         × ((delete.clauses 𝓛 mem run κs args).ensures tt r ends
-        ≡ fact 𝓤 (Promised (lent_to args.1.1.0 args.0 args.1.0) (Delete args.1.1.1.0) (left_in r ends.0 ends.1.0)))
+        ≡ fact 𝓤 (Promised (lent_to args.1.1.0 args.0.now args.1.0.now) (Delete args.1.1.1.0) (left_in r ends.0.now ends.1.0.now)))
     delete_promises = (refl, refl)
 
   -- THEOREM: Merge
   module _ (κs : Lfts 2) (args : Args merge.signature κs) (r : Res merge.signature κs) (ends : AtExit merge.ended κs) where
     pub merge_promises : ((merge.clauses 𝓛 mem run κs args).requires tt ≡ emp 𝓤)
         × ((merge.clauses 𝓛 mem run κs args).ensures tt r ends
-        ≡ fact 𝓤 (Promised (lent_to args.1.1.0 args.0 args.1.0) (Merge args.1.1.1.0) (left_in r ends.0 ends.1.0)))
+        ≡ fact 𝓤 (Promised (lent_to args.1.1.0 args.0.now args.1.0.now) (Merge args.1.1.1.0) (left_in r ends.0.now ends.1.0.now)))
     merge_promises = (refl, refl)
 
   -- THEOREM: Dump
   module _ (κs : Lfts 3) (args : Args dump.signature κs) (r : Res dump.signature κs) (ends : AtExit dump.ended κs) where
     pub dump_promises : ((dump.clauses 𝓛 mem run κs args).requires tt ≡ emp 𝓤)
         × ((dump.clauses 𝓛 mem run κs args).ensures tt r ends
-        ≡ fact 𝓤 (Promised (lent_to args.1.1.1.0 args.0 args.1.0) (Dump args.1.1.0.now) (written_in r ends.1.1.0)))
+        ≡ fact 𝓤 (Promised (lent_to args.1.1.1.0 args.0.now args.1.0.now) (Dump args.1.1.0.now) (written_in r ends.1.1.0.now)))
     dump_promises = (refl, refl)
 
   -- THEOREM: Audit
   module _ (κs : Lfts 2) (args : Args audit.signature κs) (r : Res audit.signature κs) (ends : AtExit audit.ended κs) where
     pub audit_promises : ((audit.clauses 𝓛 mem run κs args).requires tt ≡ emp 𝓤)
-        × ((audit.clauses 𝓛 mem run κs args).ensures tt r ends ≡ fact 𝓤 (Promised (lent_to args.1.1.0 args.0 args.1.0) Audit r))
+        × ((audit.clauses 𝓛 mem run κs args).ensures tt r ends ≡ fact 𝓤 (Promised (lent_to args.1.1.0 args.0.now args.1.0.now) Audit r))
     audit_promises = (refl, refl)
