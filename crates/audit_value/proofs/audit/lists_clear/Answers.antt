@@ -25,7 +25,7 @@ pub returns-then-not-clear_from : goal.returns-then-not-clear_from
 unfolding clear_lists
 returns-then-not-clear_from c =
     let value-told : let a = c.args in c.clear_from.result ≡ clear_from a.issued (decode (value_list a.sizes a.block.now)) =
-      rw c.value_list.ensures at c.clear_from.ensures in
+    rw c.value_list.ensures at c.clear_from.ensures in
     let found = c.clear_from.result in
     first_fails _ _ found (value-told) (c.if-not-clear_from.true)
 
@@ -45,7 +45,7 @@ pub returns : goal.returns
 unfolding clear_lists
 returns c =
     let value-told : let a = c.args in c.clear_from.result ≡ clear_from a.issued (decode (value_list a.sizes a.block.now)) =
-      rw c.value_list.ensures at c.clear_from.ensures in
+    rw c.value_list.ensures at c.clear_from.ensures in
     let looked = c in
     let found = looked.clear_from.result in
     second_decides _ _ found (value-told) (c.if-not-clear_from.false) c.clear_from-2.result

@@ -24,23 +24,23 @@ slice_bounds-take_rows-end-2 c =
 pub slice_bounds-take_rows-end-3 : goal.slice_bounds-take_rows-end-3
 slice_bounds-take_rows-end-3 c =
     let made : let start = c in take start.args.sizes.groups c.turn_over_lists.new.groups ≡ current start.args.sizes start.args.block.now =
-      let start = c in
-      ap (take start.args.sizes.groups) c.turn_over_lists.ensures
-      ∙ front-turned start.args.sizes start.requires.0 start.args.block.now start.requires.2 4096 in
+    let start = c in
+    ap (take start.args.sizes.groups) c.turn_over_lists.ensures
+    ∙ front-turned start.args.sizes start.requires.0 start.args.block.now start.requires.2 4096 in
     let made-long : let start = c in length (take start.args.sizes.groups c.turn_over_lists.new.groups) ≡ start.args.sizes.groups =
-      let start = c in
-      ap length (made) ∙ length-current start.args.sizes start.requires.0 start.args.block.now start.requires.2 in
+    let start = c in
+    ap length (made) ∙ length-current start.args.sizes start.requires.0 start.args.block.now start.requires.2 in
     sym (made-long)
 
 pub take_rows-requires : goal.take_rows-requires
 take_rows-requires c =
     let made : let start = c in take start.args.sizes.groups c.turn_over_lists.new.groups ≡ current start.args.sizes start.args.block.now =
-      let start = c in
-      ap (take start.args.sizes.groups) c.turn_over_lists.ensures
-      ∙ front-turned start.args.sizes start.requires.0 start.args.block.now start.requires.2 4096 in
+    let start = c in
+    ap (take start.args.sizes.groups) c.turn_over_lists.ensures
+    ∙ front-turned start.args.sizes start.requires.0 start.args.block.now start.requires.2 4096 in
     let made-long : let start = c in length (take start.args.sizes.groups c.turn_over_lists.new.groups) ≡ start.args.sizes.groups =
-      let start = c in
-      ap length (made) ∙ length-current start.args.sizes start.requires.0 start.args.block.now start.requires.2 in
+    let start = c in
+    ap length (made) ∙ length-current start.args.sizes start.requires.0 start.args.block.now start.requires.2 in
     let start = c in (
       groups-take start.args.sizes.groups start.args.taken.now start.requires.3,
       rw (made) (current-lt start.args.sizes start.requires.0 start.args.block.now start.requires.2),
@@ -50,9 +50,9 @@ take_rows-requires c =
 pub returns : goal.returns
 returns c =
     let made : let start = c in take start.args.sizes.groups c.turn_over_lists.new.groups ≡ current start.args.sizes start.args.block.now =
-      let start = c in
-      ap (take start.args.sizes.groups) c.turn_over_lists.ensures
-      ∙ front-turned start.args.sizes start.requires.0 start.args.block.now start.requires.2 4096 in
+    let start = c in
+    ap (take start.args.sizes.groups) c.turn_over_lists.ensures
+    ∙ front-turned start.args.sizes start.requires.0 start.args.block.now start.requires.2 4096 in
     let start = c in
     let rows = rw (made) at c.take_rows.ensures in
     (rows.0, ap (λ (front : List ℕ). front ++ drop start.args.sizes.groups start.args.taken.now) rows.1)

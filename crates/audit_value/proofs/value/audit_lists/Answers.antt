@@ -22,23 +22,23 @@ block_of-block-requires c = let start = c in (start.requires.0, start.requires.1
 pub sound_lists-requires : goal.sound_lists-requires
 sound_lists-requires c =
     let long : length c.block_of-block.result.now ≡ block_size c.args.sizes =
-      let start = c in
-      rw c.block_of-block.ensures (length-block_at start.args.sizes start.args.words.now start.args.value start.requires.1) in
+    let start = c in
+    rw c.block_of-block.ensures (length-block_at start.args.sizes start.args.words.now start.args.value start.requires.1) in
     let start = c in (start.requires.0, long, start.requires.2)
 
 pub returns-then-not-sound_lists : goal.returns-then-not-sound_lists
 returns-then-not-sound_lists c =
     let listed : let a = c.args in c.sound_lists.result ≡ sound_lists a.sizes a.issued (block_at a.sizes a.words.now a.value) =
-      rw c.block_of-block.ensures at c.sound_lists.ensures in
+    rw c.block_of-block.ensures at c.sound_lists.ensures in
     (rw (sym (listed) ∙ c.if-not-sound_lists.true) refl, never)
 
 pub take_value-requires : goal.take_value-requires
 take_value-requires c =
     let long : length c.block_of-block.result.now ≡ block_size c.args.sizes =
-      let start = c in
-      rw c.block_of-block.ensures (length-block_at start.args.sizes start.args.words.now start.args.value start.requires.1) in
+    let start = c in
+    rw c.block_of-block.ensures (length-block_at start.args.sizes start.args.words.now start.args.value start.requires.1) in
     let listed : let a = c.args in c.sound_lists.result ≡ sound_lists a.sizes a.issued (block_at a.sizes a.words.now a.value) =
-      rw c.block_of-block.ensures at c.sound_lists.ensures in
+    rw c.block_of-block.ensures at c.sound_lists.ensures in
     let looked = c in
     let start = looked in
     let a = start.args in
@@ -49,7 +49,7 @@ take_value-requires c =
 pub returns : goal.returns
 returns c =
     let listed : let a = c.args in c.sound_lists.result ≡ sound_lists a.sizes a.issued (block_at a.sizes a.words.now a.value) =
-      rw c.block_of-block.ensures at c.sound_lists.ensures in
+    rw c.block_of-block.ensures at c.sound_lists.ensures in
     let looked = c in
     let is-sound = sym (listed) ∙ c.if-not-sound_lists.false in
     let takes = rw looked.block_of-block.ensures at c.take_value.ensures in

@@ -16,7 +16,7 @@ returns-in_default c =
 pub merge_due-requires : goal.merge_due-requires
 merge_due-requires c =
     let finds : let a = c.args in Intact c.in-Intact.ones ≡ whole_of a.sizes a.block.now =
-      sym c.in-Intact.is ∙ c.check_lists.ensures in
+    sym c.in-Intact.is ∙ c.check_lists.ensures in
     let start = c in
     let a = start.args in
     let intact = finds in
@@ -26,6 +26,6 @@ pub returns : goal.returns
 unfolding flip_for
 returns c =
     let finds : let a = c.args in Intact c.in-Intact.ones ≡ whole_of a.sizes a.block.now =
-      sym c.in-Intact.is ∙ c.check_lists.ensures in
+    sym c.in-Intact.is ∙ c.check_lists.ensures in
     let a = c.args in
     rw (intact-whole a.sizes a.block.now _ (finds), c.merge_due.ensures) refl

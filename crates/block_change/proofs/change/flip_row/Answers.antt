@@ -12,13 +12,13 @@ use Rattle.block_change.proofs.change.flip_row.Goals.{then-merges, else-merges}
 pub turn-requires : goal.turn-requires
 turn-requires c =
     let half : let a = c.args in c.if-merges.block ≡ before a.sizes a.row a.block.now =
-      let start = c in
-      let a = start.args in
-      let due = sym start.requires.4 in
-      elim c.if-merges.branch [
-        then-merges w ↦ let e : merge_due a.sizes a.row a.block.now ≡ true = due ∙ w.if-merges.true in w.block-is ∙ w.merge.ensures ∙ rw e refl
-        | else-merges w ↦ let e : merge_due a.sizes a.row a.block.now ≡ false = due ∙ w.if-merges.false in w.block-is ∙ rw e refl
-      ] in
+    let start = c in
+    let a = start.args in
+    let due = sym start.requires.4 in
+    elim c.if-merges.branch [
+      | then-merges w ↦ let e : merge_due a.sizes a.row a.block.now ≡ true = due ∙ w.if-merges.true in w.block-is ∙ w.merge.ensures ∙ rw e refl
+      | else-merges w ↦ let e : merge_due a.sizes a.row a.block.now ≡ false = due ∙ w.if-merges.false in w.block-is ∙ rw e refl
+    ] in
     let start = c in
     let a = start.args in
     let is = ready a.sizes start.requires.0 a.row a.block.now start.requires.1 start.requires.2 in
@@ -30,15 +30,15 @@ pub shape_of-block : goal.shape_of-block
 unfolding flipped
 shape_of-block c =
     let half : let a = c.args in c.if-merges.block ≡ before a.sizes a.row a.block.now =
-      let start = c in
-      let a = start.args in
-      let due = sym start.requires.4 in
-      elim c.if-merges.branch [
-        then-merges w ↦ let e : merge_due a.sizes a.row a.block.now ≡ true = due ∙ w.if-merges.true in w.block-is ∙ w.merge.ensures ∙ rw e refl
-        | else-merges w ↦ let e : merge_due a.sizes a.row a.block.now ≡ false = due ∙ w.if-merges.false in w.block-is ∙ rw e refl
-      ] in
+    let start = c in
+    let a = start.args in
+    let due = sym start.requires.4 in
+    elim c.if-merges.branch [
+      | then-merges w ↦ let e : merge_due a.sizes a.row a.block.now ≡ true = due ∙ w.if-merges.true in w.block-is ∙ w.merge.ensures ∙ rw e refl
+      | else-merges w ↦ let e : merge_due a.sizes a.row a.block.now ≡ false = due ∙ w.if-merges.false in w.block-is ∙ rw e refl
+    ] in
     let flips : let a = c.args in c.turn.new.block ≡ flipped a.sizes a.row a.block.now =
-      c.turn.ensures ∙ rw (half) refl in
+    c.turn.ensures ∙ rw (half) refl in
     let start = c in
     let a = start.args in
     ap length (flips)
@@ -49,13 +49,13 @@ pub returns : goal.returns
 unfolding flipped
 returns c =
     let half : let a = c.args in c.if-merges.block ≡ before a.sizes a.row a.block.now =
-      let start = c in
-      let a = start.args in
-      let due = sym start.requires.4 in
-      elim c.if-merges.branch [
-        then-merges w ↦ let e : merge_due a.sizes a.row a.block.now ≡ true = due ∙ w.if-merges.true in w.block-is ∙ w.merge.ensures ∙ rw e refl
-        | else-merges w ↦ let e : merge_due a.sizes a.row a.block.now ≡ false = due ∙ w.if-merges.false in w.block-is ∙ rw e refl
-      ] in
+    let start = c in
+    let a = start.args in
+    let due = sym start.requires.4 in
+    elim c.if-merges.branch [
+      | then-merges w ↦ let e : merge_due a.sizes a.row a.block.now ≡ true = due ∙ w.if-merges.true in w.block-is ∙ w.merge.ensures ∙ rw e refl
+      | else-merges w ↦ let e : merge_due a.sizes a.row a.block.now ≡ false = due ∙ w.if-merges.false in w.block-is ∙ rw e refl
+    ] in
     let flips : let a = c.args in c.turn.new.block ≡ flipped a.sizes a.row a.block.now =
-      c.turn.ensures ∙ rw (half) refl in
+    c.turn.ensures ∙ rw (half) refl in
     flips

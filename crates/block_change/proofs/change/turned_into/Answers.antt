@@ -17,13 +17,13 @@ update_list-requires c =
 pub slice_bounds-row_words-end : goal.slice_bounds-row_words-end
 slice_bounds-row_words-end c =
     let row_fits : c.one_row-one.result.count ≤ length c.one_row-one.result.words =
-      omega (arith, c.one_row-one.ensures.few, c.one_row-one.type_inv.1.1.0.1.0.1) in
+    omega (arith, c.one_row-one.ensures.few, c.one_row-one.type_inv.1.1.0.1.0.1) in
     row_fits
 
 pub slice_bounds-xor_into-end : goal.slice_bounds-xor_into-end
 slice_bounds-xor_into-end c =
     let row_fits : c.one_row-one.result.count ≤ length c.one_row-one.result.words =
-      omega (arith, c.one_row-one.ensures.few, c.one_row-one.type_inv.1.1.0.1.0.1) in
+    omega (arith, c.one_row-one.ensures.few, c.one_row-one.type_inv.1.1.0.1.0.1) in
     let one = c in
     sym (length-take-le one.one_row-one.result.count one.one_row-one.result.words (row_fits))
 

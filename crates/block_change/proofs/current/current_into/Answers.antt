@@ -10,13 +10,13 @@ use Rattle.block_change.proofs.current.current_into.Goals as goal
 pub value_list-value-requires : goal.value_list-value-requires
 value_list-value-requires c =
     let parts : WholeParts c.args.sizes c.args.block.now =
-      whole_parts c.args.sizes c.args.block.now c.requires.2 in
+    whole_parts c.args.sizes c.args.block.now c.requires.2 in
     let start = c in (start.requires.0, start.requires.1, (parts).value_short)
 
 pub update_list-update-requires : goal.update_list-update-requires
 update_list-update-requires c =
     let parts : WholeParts c.args.sizes c.args.block.now =
-      whole_parts c.args.sizes c.args.block.now c.requires.2 in
+    whole_parts c.args.sizes c.args.block.now c.requires.2 in
     let start = c in (start.requires.0, start.requires.1, (parts).update_short)
 
 -- ---- U is zeros
@@ -33,7 +33,7 @@ copy-requires c =
 pub returns-then-is_zero_fill : goal.returns-then-is_zero_fill
 returns-then-is_zero_fill c =
     let all_words : Words c.args.block.now =
-      λ i. omega (arith, c.type_inv.block i) in
+    λ i. omega (arith, c.type_inv.block i) in
     let zero = c in
     let known = zero in
     let start = known in

@@ -19,17 +19,17 @@ returns-then-length-place c = let start = c in value_misplaced start.args.sizes 
 pub slice_bounds-read_from-count : goal.slice_bounds-read_from-count
 slice_bounds-read_from-count c =
     let long : length c.value_list-list.result.now ≡ c.value_length-length.result =
-      let start = c in
-      let value = c.value_length-length in
-      ap length c.value_list-list.ensures ∙ length-value_list start.args.sizes start.args.block.now start.requires.1 (omega arith) ∙ omega arith in
+    let start = c in
+    let value = c.value_length-length in
+    ap length c.value_list-list.ensures ∙ length-value_list start.args.sizes start.args.block.now start.requires.1 (omega arith) ∙ omega arith in
     omega (arith, long)
 
 pub slice_bounds-read_from-start : goal.slice_bounds-read_from-start
 slice_bounds-read_from-start c =
     let long : length c.value_list-list.result.now ≡ c.value_length-length.result =
-      let start = c in
-      let value = c.value_length-length in
-      ap length c.value_list-list.ensures ∙ length-value_list start.args.sizes start.args.block.now start.requires.1 (omega arith) ∙ omega arith in
+    let start = c in
+    let value = c.value_length-length in
+    ap length c.value_list-list.ensures ∙ length-value_list start.args.sizes start.args.block.now start.requires.1 (omega arith) ∙ omega arith in
     omega (arith, long)
 
 pub returns : goal.returns

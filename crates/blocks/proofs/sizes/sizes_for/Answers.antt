@@ -28,5 +28,6 @@ returns c =
         fences_are = refl;
       },
     )
+
 -- LOST div-fences : tie.Need-nonzero-div-fences
 -- div-fences c = search rules

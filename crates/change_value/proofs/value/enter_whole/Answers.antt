@@ -18,17 +18,17 @@ returns-in_default c =
 pub block_of-requires : goal.block_of-requires
 block_of-requires c =
     let block_inside : let a = c.args in Fenced c.in-Ready.sizes (length a.words.now) a.fences a.value =
-      let a = c.args in
-      let call = c.enter_value-entry in
-      inside a.words.now a.fences a.header a.value call.result call.ensures _ c.in-Ready.is in
+    let a = c.args in
+    let call = c.enter_value-entry in
+    inside a.words.now a.fences a.header a.value call.result call.ensures _ c.in-Ready.is in
     let is = block_inside in (is.limits, is.inside)
 
 pub check_lists-requires : goal.check_lists-requires
 check_lists-requires c =
     let block_inside : let a = c.args in Fenced c.in-Ready.sizes (length a.words.now) a.fences a.value =
-      let a = c.args in
-      let call = c.enter_value-entry in
-      inside a.words.now a.fences a.header a.value call.result call.ensures _ c.in-Ready.is in
+    let a = c.args in
+    let call = c.enter_value-entry in
+    inside a.words.now a.fences a.header a.value call.result call.ensures _ c.in-Ready.is in
     let a = c.args in
     let is = block_inside in
     (is.limits, ap length c.block_of.ensures ∙ length-block_at _ a.words.now a.value is.inside)
@@ -36,7 +36,7 @@ check_lists-requires c =
 pub returns-in_default-check_lists : goal.returns-in_default-check_lists
 returns-in_default-check_lists c =
     let finds : let entry = c in let a = entry.args in let sizes = entry.in-Ready.sizes in c.check_lists.result ≡ whole_of sizes (block_at sizes a.words.now a.value) =
-      rw c.block_of.ensures at c.check_lists.ensures in
+    rw c.block_of.ensures at c.check_lists.ensures in
     let check = c in
     let entry = check in
     let a = entry.args in
@@ -47,7 +47,7 @@ returns-in_default-check_lists c =
 pub returns : goal.returns
 returns c =
     let finds : let entry = c in let a = entry.args in let sizes = entry.in-Ready.sizes in c.check_lists.result ≡ whole_of sizes (block_at sizes a.words.now a.value) =
-      rw c.block_of.ensures at c.check_lists.ensures in
+    rw c.block_of.ensures at c.check_lists.ensures in
     let check = c in
     let entry = check in
     let a = entry.args in

@@ -15,25 +15,25 @@ use Rattle.change_value.proofs.value.flip_value.Goals as goal
 pub overflow_mul-at : goal.overflow_mul-at
 overflow_mul-at c =
     let within : c.args.value * c.args.sizes.block + c.args.sizes.block ≤ length c.args.words.now =
-      inside_words c.args.sizes c.requires.0 (length c.args.words.now) c.args.value c.requires.1 in
+    inside_words c.args.sizes c.requires.0 (length c.args.words.now) c.args.value c.requires.1 in
     omega (arith, within)
 
 pub overflow_add-end : goal.overflow_add-end
 overflow_add-end c =
     let within : c.args.value * c.args.sizes.block + c.args.sizes.block ≤ length c.args.words.now =
-      inside_words c.args.sizes c.requires.0 (length c.args.words.now) c.args.value c.requires.1 in
+    inside_words c.args.sizes c.requires.0 (length c.args.words.now) c.args.value c.requires.1 in
     omega (arith, within)
 
 pub offset_bounds-words-at : goal.offset_bounds-words-at
 offset_bounds-words-at c =
     let within : c.args.value * c.args.sizes.block + c.args.sizes.block ≤ length c.args.words.now =
-      inside_words c.args.sizes c.requires.0 (length c.args.words.now) c.args.value c.requires.1 in
+    inside_words c.args.sizes c.requires.0 (length c.args.words.now) c.args.value c.requires.1 in
     omega (arith, within)
 
 pub slice_bounds-flip_row-end : goal.slice_bounds-flip_row-end
 slice_bounds-flip_row-end c =
     let within : c.args.value * c.args.sizes.block + c.args.sizes.block ≤ length c.args.words.now =
-      inside_words c.args.sizes c.requires.0 (length c.args.words.now) c.args.value c.requires.1 in
+    inside_words c.args.sizes c.requires.0 (length c.args.words.now) c.args.value c.requires.1 in
     omega (arith, within)
 
 pub flip_row-requires : goal.flip_row-requires

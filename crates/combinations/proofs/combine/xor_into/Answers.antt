@@ -66,11 +66,11 @@ moved-requires c =
 pub opened-x-requires : goal.opened-x-requires
 opened-x-requires c =
     let now : let args = c.args in let loop = c.loop-done in let copying = c.next_copy-copying.result in let ahead = c.opened-ahead.result in Combining exclusive args.left.now args.right.now args.groups args.out.now c.copy_words-copied.new.out (past loop.from_left copying.words) (shorter ahead copying.groups) copying.pending c.copy_words-copied.result (loop.done + copying.groups) =
-      let k = c.loop-done.invariant in
-      let opens = c.opened-ahead in
-      let copying = c.next_copy-copying in
-      let ended = c.finish-ended in
-      copied_on k opens.ensures copying.ensures _ _ _ _ ended.ensures c.copy_words-copied.ensures in
+    let k = c.loop-done.invariant in
+    let opens = c.opened-ahead in
+    let copying = c.next_copy-copying in
+    let ended = c.finish-ended in
+    copied_on k opens.ensures copying.ensures _ _ _ _ ended.ensures c.copy_words-copied.ensures in
     let start = c in
     let opens = c.opened-ahead in
     let copying = c.next_copy-copying in
@@ -92,25 +92,25 @@ shortened-y-requires c =
 pub next_step-step-requires : goal.next_step-step-requires
 next_step-step-requires c =
     let now : let args = c.args in let loop = c.loop-done in let copying = c.next_copy-copying.result in let ahead = c.opened-ahead.result in Combining exclusive args.left.now args.right.now args.groups args.out.now c.copy_words-copied.new.out (past loop.from_left copying.words) (shorter ahead copying.groups) copying.pending c.copy_words-copied.result (loop.done + copying.groups) =
-      let k = c.loop-done.invariant in
-      let opens = c.opened-ahead in
-      let copying = c.next_copy-copying in
-      let ended = c.finish-ended in
-      copied_on k opens.ensures copying.ensures _ _ _ _ ended.ensures c.copy_words-copied.ensures in
+    let k = c.loop-done.invariant in
+    let opens = c.opened-ahead in
+    let copying = c.next_copy-copying in
+    let ended = c.finish-ended in
+    copied_on k opens.ensures copying.ensures _ _ _ _ ended.ensures c.copy_words-copied.ensures in
     let turn : let args = c.args in let loop = c.loop-done in let copying = c.next_copy-copying.result in let ahead = c.opened-ahead.result in let x = c.opened-x.result in let y = c.shortened-y.result in Turn exclusive args.left.now args.right.now (past loop.from_left copying.words) (shorter ahead copying.groups) x y (bit_xor x.group y.group) c.common-count.result =
-      let k = c.loop-done.invariant in
-      let opens = c.opened-ahead in
-      let copying = c.next_copy-copying in
-      let moved = c.moved in
-      let x = c.opened-x in
-      let y = c.shortened-y in
-      let still = still_opened k opens.ensures copying.ensures y.result y.ensures in
-      record {
-        opens_left = rw (← moved.ensures) x.ensures;
-        opens_right = still;
-        makes = xor-on_group x.result.group y.result.group x.ensures.small still.small;
-        shortest = c.common-count.ensures;
-      } in
+    let k = c.loop-done.invariant in
+    let opens = c.opened-ahead in
+    let copying = c.next_copy-copying in
+    let moved = c.moved in
+    let x = c.opened-x in
+    let y = c.shortened-y in
+    let still = still_opened k opens.ensures copying.ensures y.result y.ensures in
+    record {
+      opens_left = rw (← moved.ensures) x.ensures;
+      opens_right = still;
+      makes = xor-on_group x.result.group y.result.group x.ensures.small still.small;
+      shortest = c.common-count.ensures;
+    } in
     let n = now in
     let t = turn in
     let start = c in
@@ -119,25 +119,25 @@ next_step-step-requires c =
 pub store-length-requires : goal.store-length-requires
 store-length-requires c =
     let now : let args = c.args in let loop = c.loop-done in let copying = c.next_copy-copying.result in let ahead = c.opened-ahead.result in Combining exclusive args.left.now args.right.now args.groups args.out.now c.copy_words-copied.new.out (past loop.from_left copying.words) (shorter ahead copying.groups) copying.pending c.copy_words-copied.result (loop.done + copying.groups) =
-      let k = c.loop-done.invariant in
-      let opens = c.opened-ahead in
-      let copying = c.next_copy-copying in
-      let ended = c.finish-ended in
-      copied_on k opens.ensures copying.ensures _ _ _ _ ended.ensures c.copy_words-copied.ensures in
+    let k = c.loop-done.invariant in
+    let opens = c.opened-ahead in
+    let copying = c.next_copy-copying in
+    let ended = c.finish-ended in
+    copied_on k opens.ensures copying.ensures _ _ _ _ ended.ensures c.copy_words-copied.ensures in
     let turn : let args = c.args in let loop = c.loop-done in let copying = c.next_copy-copying.result in let ahead = c.opened-ahead.result in let x = c.opened-x.result in let y = c.shortened-y.result in Turn exclusive args.left.now args.right.now (past loop.from_left copying.words) (shorter ahead copying.groups) x y (bit_xor x.group y.group) c.common-count.result =
-      let k = c.loop-done.invariant in
-      let opens = c.opened-ahead in
-      let copying = c.next_copy-copying in
-      let moved = c.moved in
-      let x = c.opened-x in
-      let y = c.shortened-y in
-      let still = still_opened k opens.ensures copying.ensures y.result y.ensures in
-      record {
-        opens_left = rw (← moved.ensures) x.ensures;
-        opens_right = still;
-        makes = xor-on_group x.result.group y.result.group x.ensures.small still.small;
-        shortest = c.common-count.ensures;
-      } in
+    let k = c.loop-done.invariant in
+    let opens = c.opened-ahead in
+    let copying = c.next_copy-copying in
+    let moved = c.moved in
+    let x = c.opened-x in
+    let y = c.shortened-y in
+    let still = still_opened k opens.ensures copying.ensures y.result y.ensures in
+    record {
+      opens_left = rw (← moved.ensures) x.ensures;
+      opens_right = still;
+      makes = xor-on_group x.result.group y.result.group x.ensures.small still.small;
+      shortest = c.common-count.ensures;
+    } in
     let n = now in
     let t = turn in
     let step = c.next_step-step in
@@ -154,73 +154,73 @@ shortened-from_right-requires c =
 pub overflow_add-done : goal.overflow_add-done
 overflow_add-done c =
     let now : let args = c.args in let loop = c.loop-done in let copying = c.next_copy-copying.result in let ahead = c.opened-ahead.result in Combining exclusive args.left.now args.right.now args.groups args.out.now c.copy_words-copied.new.out (past loop.from_left copying.words) (shorter ahead copying.groups) copying.pending c.copy_words-copied.result (loop.done + copying.groups) =
-      let k = c.loop-done.invariant in
-      let opens = c.opened-ahead in
-      let copying = c.next_copy-copying in
-      let ended = c.finish-ended in
-      copied_on k opens.ensures copying.ensures _ _ _ _ ended.ensures c.copy_words-copied.ensures in
+    let k = c.loop-done.invariant in
+    let opens = c.opened-ahead in
+    let copying = c.next_copy-copying in
+    let ended = c.finish-ended in
+    copied_on k opens.ensures copying.ensures _ _ _ _ ended.ensures c.copy_words-copied.ensures in
     let turn : let args = c.args in let loop = c.loop-done in let copying = c.next_copy-copying.result in let ahead = c.opened-ahead.result in let x = c.opened-x.result in let y = c.shortened-y.result in Turn exclusive args.left.now args.right.now (past loop.from_left copying.words) (shorter ahead copying.groups) x y (bit_xor x.group y.group) c.common-count.result =
-      let k = c.loop-done.invariant in
-      let opens = c.opened-ahead in
-      let copying = c.next_copy-copying in
-      let moved = c.moved in
-      let x = c.opened-x in
-      let y = c.shortened-y in
-      let still = still_opened k opens.ensures copying.ensures y.result y.ensures in
-      record {
-        opens_left = rw (← moved.ensures) x.ensures;
-        opens_right = still;
-        makes = xor-on_group x.result.group y.result.group x.ensures.small still.small;
-        shortest = c.common-count.ensures;
-      } in
+    let k = c.loop-done.invariant in
+    let opens = c.opened-ahead in
+    let copying = c.next_copy-copying in
+    let moved = c.moved in
+    let x = c.opened-x in
+    let y = c.shortened-y in
+    let still = still_opened k opens.ensures copying.ensures y.result y.ensures in
+    record {
+      opens_left = rw (← moved.ensures) x.ensures;
+      opens_right = still;
+      makes = xor-on_group x.result.group y.result.group x.ensures.small still.small;
+      shortest = c.common-count.ensures;
+    } in
     omega (arith, turn_near (now) (turn), c.requires.2)
 
 pub overflow_add-done-in-loop-done : goal.overflow_add-done-in-loop-done
 overflow_add-done-in-loop-done c =
     let now : let args = c.args in let loop = c.loop-done in let copying = c.next_copy-copying.result in let ahead = c.opened-ahead.result in Combining exclusive args.left.now args.right.now args.groups args.out.now c.copy_words-copied.new.out (past loop.from_left copying.words) (shorter ahead copying.groups) copying.pending c.copy_words-copied.result (loop.done + copying.groups) =
-      let k = c.loop-done.invariant in
-      let opens = c.opened-ahead in
-      let copying = c.next_copy-copying in
-      let ended = c.finish-ended in
-      copied_on k opens.ensures copying.ensures _ _ _ _ ended.ensures c.copy_words-copied.ensures in
+    let k = c.loop-done.invariant in
+    let opens = c.opened-ahead in
+    let copying = c.next_copy-copying in
+    let ended = c.finish-ended in
+    copied_on k opens.ensures copying.ensures _ _ _ _ ended.ensures c.copy_words-copied.ensures in
     let turn : let args = c.args in let loop = c.loop-done in let copying = c.next_copy-copying.result in let ahead = c.opened-ahead.result in let x = c.opened-x.result in let y = c.shortened-y.result in Turn exclusive args.left.now args.right.now (past loop.from_left copying.words) (shorter ahead copying.groups) x y (bit_xor x.group y.group) c.common-count.result =
-      let k = c.loop-done.invariant in
-      let opens = c.opened-ahead in
-      let copying = c.next_copy-copying in
-      let moved = c.moved in
-      let x = c.opened-x in
-      let y = c.shortened-y in
-      let still = still_opened k opens.ensures copying.ensures y.result y.ensures in
-      record {
-        opens_left = rw (← moved.ensures) x.ensures;
-        opens_right = still;
-        makes = xor-on_group x.result.group y.result.group x.ensures.small still.small;
-        shortest = c.common-count.ensures;
-      } in
+    let k = c.loop-done.invariant in
+    let opens = c.opened-ahead in
+    let copying = c.next_copy-copying in
+    let moved = c.moved in
+    let x = c.opened-x in
+    let y = c.shortened-y in
+    let still = still_opened k opens.ensures copying.ensures y.result y.ensures in
+    record {
+      opens_left = rw (← moved.ensures) x.ensures;
+      opens_right = still;
+      makes = xor-on_group x.result.group y.result.group x.ensures.small still.small;
+      shortest = c.common-count.ensures;
+    } in
     omega (arith, turn_near (now) (turn), c.requires.2)
 
 pub loop-done-smaller : goal.loop-done-smaller
 loop-done-smaller c =
     let now : let args = c.args in let loop = c.loop-done in let copying = c.next_copy-copying.result in let ahead = c.opened-ahead.result in Combining exclusive args.left.now args.right.now args.groups args.out.now c.copy_words-copied.new.out (past loop.from_left copying.words) (shorter ahead copying.groups) copying.pending c.copy_words-copied.result (loop.done + copying.groups) =
-      let k = c.loop-done.invariant in
-      let opens = c.opened-ahead in
-      let copying = c.next_copy-copying in
-      let ended = c.finish-ended in
-      copied_on k opens.ensures copying.ensures _ _ _ _ ended.ensures c.copy_words-copied.ensures in
+    let k = c.loop-done.invariant in
+    let opens = c.opened-ahead in
+    let copying = c.next_copy-copying in
+    let ended = c.finish-ended in
+    copied_on k opens.ensures copying.ensures _ _ _ _ ended.ensures c.copy_words-copied.ensures in
     let turn : let args = c.args in let loop = c.loop-done in let copying = c.next_copy-copying.result in let ahead = c.opened-ahead.result in let x = c.opened-x.result in let y = c.shortened-y.result in Turn exclusive args.left.now args.right.now (past loop.from_left copying.words) (shorter ahead copying.groups) x y (bit_xor x.group y.group) c.common-count.result =
-      let k = c.loop-done.invariant in
-      let opens = c.opened-ahead in
-      let copying = c.next_copy-copying in
-      let moved = c.moved in
-      let x = c.opened-x in
-      let y = c.shortened-y in
-      let still = still_opened k opens.ensures copying.ensures y.result y.ensures in
-      record {
-        opens_left = rw (← moved.ensures) x.ensures;
-        opens_right = still;
-        makes = xor-on_group x.result.group y.result.group x.ensures.small still.small;
-        shortest = c.common-count.ensures;
-      } in
+    let k = c.loop-done.invariant in
+    let opens = c.opened-ahead in
+    let copying = c.next_copy-copying in
+    let moved = c.moved in
+    let x = c.opened-x in
+    let y = c.shortened-y in
+    let still = still_opened k opens.ensures copying.ensures y.result y.ensures in
+    record {
+      opens_left = rw (← moved.ensures) x.ensures;
+      opens_right = still;
+      makes = xor-on_group x.result.group y.result.group x.ensures.small still.small;
+      shortest = c.common-count.ensures;
+    } in
     let n = now in
     let t = turn in
     omega (arith, turn_some n t, turn_near n t)
@@ -228,25 +228,25 @@ loop-done-smaller c =
 pub loop-done-preserved : goal.loop-done-preserved
 loop-done-preserved c =
     let now : let args = c.args in let loop = c.loop-done in let copying = c.next_copy-copying.result in let ahead = c.opened-ahead.result in Combining exclusive args.left.now args.right.now args.groups args.out.now c.copy_words-copied.new.out (past loop.from_left copying.words) (shorter ahead copying.groups) copying.pending c.copy_words-copied.result (loop.done + copying.groups) =
-      let k = c.loop-done.invariant in
-      let opens = c.opened-ahead in
-      let copying = c.next_copy-copying in
-      let ended = c.finish-ended in
-      copied_on k opens.ensures copying.ensures _ _ _ _ ended.ensures c.copy_words-copied.ensures in
+    let k = c.loop-done.invariant in
+    let opens = c.opened-ahead in
+    let copying = c.next_copy-copying in
+    let ended = c.finish-ended in
+    copied_on k opens.ensures copying.ensures _ _ _ _ ended.ensures c.copy_words-copied.ensures in
     let turn : let args = c.args in let loop = c.loop-done in let copying = c.next_copy-copying.result in let ahead = c.opened-ahead.result in let x = c.opened-x.result in let y = c.shortened-y.result in Turn exclusive args.left.now args.right.now (past loop.from_left copying.words) (shorter ahead copying.groups) x y (bit_xor x.group y.group) c.common-count.result =
-      let k = c.loop-done.invariant in
-      let opens = c.opened-ahead in
-      let copying = c.next_copy-copying in
-      let moved = c.moved in
-      let x = c.opened-x in
-      let y = c.shortened-y in
-      let still = still_opened k opens.ensures copying.ensures y.result y.ensures in
-      record {
-        opens_left = rw (← moved.ensures) x.ensures;
-        opens_right = still;
-        makes = xor-on_group x.result.group y.result.group x.ensures.small still.small;
-        shortest = c.common-count.ensures;
-      } in
+    let k = c.loop-done.invariant in
+    let opens = c.opened-ahead in
+    let copying = c.next_copy-copying in
+    let moved = c.moved in
+    let x = c.opened-x in
+    let y = c.shortened-y in
+    let still = still_opened k opens.ensures copying.ensures y.result y.ensures in
+    record {
+      opens_left = rw (← moved.ensures) x.ensures;
+      opens_right = still;
+      makes = xor-on_group x.result.group y.result.group x.ensures.small still.small;
+      shortest = c.common-count.ensures;
+    } in
     let n = now in
     let t = turn in
     let copying = c.next_copy-copying in

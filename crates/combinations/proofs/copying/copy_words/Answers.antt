@@ -13,6 +13,7 @@ returns c =
       part_copied a.list.now a.out.now a.from a.words a.at start.requires.0 start.requires.1
           copy.new.out copy.ensures,
     )
+
 -- LOST part-copy-start : tie.Need-slice-bounds-copy-start
 -- part-copy-start c = search rules
 -- LOST part-copy-end : tie.Need-slice-bounds-copy-end

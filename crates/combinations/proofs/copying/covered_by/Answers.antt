@@ -14,16 +14,16 @@ loop-i-init c = (omega arith, refl)
 pub overflow_add-groups : goal.overflow_add-groups
 overflow_add-groups c =
     let more : let loop = c.loop-i in loop.groups + c.span_of-groups.result ≡ length (decode (take (loop.i + 1) c.args.words.now)) =
-      let loop = c.loop-i in
-      omega (arith, c.span_of-groups.ensures, loop.invariant.1, length_upto c.args.words.now loop.i (omega arith)) in
+    let loop = c.loop-i in
+    omega (arith, c.span_of-groups.ensures, loop.invariant.1, length_upto c.args.words.now loop.i (omega arith)) in
     let start = c in
     omega (arith, more, length_split start.args.words.now (c.loop-i.i + 1), start.requires)
 
 pub loop-i-preserved : goal.loop-i-preserved
 loop-i-preserved c =
     let more : let loop = c.loop-i in loop.groups + c.span_of-groups.result ≡ length (decode (take (loop.i + 1) c.args.words.now)) =
-      let loop = c.loop-i in
-      omega (arith, c.span_of-groups.ensures, loop.invariant.1, length_upto c.args.words.now loop.i (omega arith)) in
+    let loop = c.loop-i in
+    omega (arith, c.span_of-groups.ensures, loop.invariant.1, length_upto c.args.words.now loop.i (omega arith)) in
     (omega arith, more)
 
 pub returns : goal.returns

@@ -19,50 +19,50 @@ all-behind list place = take_all (length list - place) (drop place list) (omega 
 pub returns-then-from-ne0 : goal.returns-then-from-ne0
 returns-then-from-ne0 c =
     let none : Copies c.args.list.now c.args.from c.args.other c.args.pending (not_copied c.args.pending) =
-      copies_none c.args.list.now c.args.from c.args.other c.args.pending c.requires.4 c.requires.2 c.requires.5 in
+    copies_none c.args.list.now c.args.from c.args.other c.args.pending c.requires.4 c.requires.2 c.requires.5 in
     let start = c in
     rw c.no_copy.ensures (none)
 
 pub returns-then-other-ne0 : goal.returns-then-other-ne0
 returns-then-other-ne0 c =
     let none : Copies c.args.list.now c.args.from c.args.other c.args.pending (not_copied c.args.pending) =
-      copies_none c.args.list.now c.args.from c.args.other c.args.pending c.requires.4 c.requires.2 c.requires.5 in
+    copies_none c.args.list.now c.args.from c.args.other c.args.pending c.requires.4 c.requires.2 c.requires.5 in
     let start = c in
     rw c.no_copy-then-other-ne0.ensures (none)
 
 pub offset_bounds-list-next : goal.offset_bounds-list-next
 offset_bounds-list-next c =
     let a_word : let a = c.args in a.from.next < length a.list.now =
-      let start = c in
-      opens_at start.args.list.now start.args.from c.if-from-ne0.false (omega (arith, start.requires.2, start.requires.3)) in
+    let start = c in
+    opens_at start.args.list.now start.args.from c.if-from-ne0.false (omega (arith, start.requires.2, start.requires.3)) in
     omega (arith, a_word)
 
 pub bounds-list-next : goal.bounds-list-next
 bounds-list-next c =
     let a_word : let a = c.args in a.from.next < length a.list.now =
-      let start = c in
-      opens_at start.args.list.now start.args.from c.if-from-ne0.false (omega (arith, start.requires.2, start.requires.3)) in
+    let start = c in
+    opens_at start.args.list.now start.args.from c.if-from-ne0.false (omega (arith, start.requires.2, start.requires.3)) in
     a_word
 
 pub returns-then-goes_on : goal.returns-then-goes_on
 returns-then-goes_on c =
     let none : Copies c.args.list.now c.args.from c.args.other c.args.pending (not_copied c.args.pending) =
-      copies_none c.args.list.now c.args.from c.args.other c.args.pending c.requires.4 c.requires.2 c.requires.5 in
+    copies_none c.args.list.now c.args.from c.args.other c.args.pending c.requires.4 c.requires.2 c.requires.5 in
     let start = c in
     rw c.no_copy-then-goes_on.ensures (none)
 
 pub offset_bounds-list-next-2 : goal.offset_bounds-list-next-2
 offset_bounds-list-next-2 c =
     let a_word : let a = c.args in a.from.next < length a.list.now =
-      let start = c in
-      opens_at start.args.list.now start.args.from c.if-from-ne0.false (omega (arith, start.requires.2, start.requires.3)) in
+    let start = c in
+    opens_at start.args.list.now start.args.from c.if-from-ne0.false (omega (arith, start.requires.2, start.requires.3)) in
     omega (arith, a_word)
 
 pub slice_bounds-reach_of-count : goal.slice_bounds-reach_of-count
 slice_bounds-reach_of-count c =
     let a_word : let a = c.args in a.from.next < length a.list.now =
-      let start = c in
-      opens_at start.args.list.now start.args.from c.if-from-ne0.false (omega (arith, start.requires.2, start.requires.3)) in
+    let start = c in
+    opens_at start.args.list.now start.args.from c.if-from-ne0.false (omega (arith, start.requires.2, start.requires.3)) in
     omega (arith, a_word)
 
 pub reach_of-reach-requires : goal.reach_of-reach-requires
@@ -86,6 +86,7 @@ returns c =
     c.if-from-ne0.false c.if-other-ne0.false
     (rw (← c.group_in.ensures) (sym c.goes_on.ensures ∙ c.if-goes_on.false))
     c.reach_of-reach.result (rw (all-behind list a.from.next) at c.reach_of-reach.ensures)
+
 -- LOST part-reach-of-start : tie.Need-slice-bounds-reach-of-start
 -- part-reach-of-start c = omega (arith, a_word c.before.before.before.before)
 -- LOST part-reach-of-end : tie.Need-slice-bounds-reach-of-end

@@ -27,18 +27,18 @@ offset_bounds-list-words c = omega (arith, c.loop-words.invariant.inside)
 pub covered_by-requires : goal.covered_by-requires
 covered_by-requires c =
     let few : let list = c.args.list.now in length (decode (take (c.loop-words.words + 16) list)) ≤ 4096 =
-      let start = c in
-      omega (arith, length_split start.args.list.now (c.loop-words.words + 16), start.requires.2) in
+    let start = c in
+    omega (arith, length_split start.args.list.now (c.loop-words.words + 16), start.requires.2) in
     omega (arith, few, covered_upto c.args.list.now c.loop-words.words 16)
 
 pub overflow_add-end : goal.overflow_add-end
 overflow_add-end c =
     let few : let list = c.args.list.now in length (decode (take (c.loop-words.words + 16) list)) ≤ 4096 =
-      let start = c in
-      omega (arith, length_split start.args.list.now (c.loop-words.words + 16), start.requires.2) in
+    let start = c in
+    omega (arith, length_split start.args.list.now (c.loop-words.words + 16), start.requires.2) in
     let more : let loop = c.loop-words in loop.groups + c.covered_by.result ≡ length (decode (take (loop.words + 16) c.args.list.now)) =
-      let loop = c.loop-words in
-      omega (arith, c.covered_by.ensures, loop.invariant.counts, covered_upto c.args.list.now loop.words 16) in
+    let loop = c.loop-words in
+    omega (arith, c.covered_by.ensures, loop.invariant.counts, covered_upto c.args.list.now loop.words 16) in
     omega (arith, more, few)
 
 pub returns-then-zeros-end : goal.returns-then-zeros-end
@@ -50,13 +50,14 @@ loop-words-smaller c = omega (arith, c.loop-words-test.true)
 pub loop-words-preserved : goal.loop-words-preserved
 loop-words-preserved c =
     let more : let loop = c.loop-words in loop.groups + c.covered_by.result ≡ length (decode (take (loop.words + 16) c.args.list.now)) =
-      let loop = c.loop-words in
-      omega (arith, c.covered_by.ensures, loop.invariant.counts, covered_upto c.args.list.now loop.words 16) in
+    let loop = c.loop-words in
+    omega (arith, c.covered_by.ensures, loop.invariant.counts, covered_upto c.args.list.now loop.words 16) in
     let start = c in
     reaches start.args.list.now start.args.zeros _ _ start.requires.1 (more) c.if-zeros-end.false
 
 pub returns : goal.returns
 returns c = c.loop-words.invariant
+
 -- LOST part-covered-by-start : tie.Need-slice-bounds-covered-by-start invariant-loop decreases-loop
 -- part-covered-by-start c = omega arith
 -- LOST part-covered-by-end : tie.Need-slice-bounds-covered-by-end invariant-loop decreases-loop

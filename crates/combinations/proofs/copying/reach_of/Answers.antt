@@ -30,67 +30,67 @@ loop-end-init c = (c.reach_by_strides-strides.ensures, rw c.span_of.ensures refl
 pub overflow_add-words : goal.overflow_add-words
 overflow_add-words c =
     let on : let start = c in Reaches start.args.list.now start.args.zeros (record { words = c.loop-end.words + 1; groups = c.loop-end.end }) =
-      let start = c in
-      let loop = c.loop-end in
-      let list = start.args.list.now in
-      reaches list start.args.zeros (loop.words + 1) loop.end start.requires.1
-      (omega (arith, loop.invariant.1, loop.invariant.0.counts, length_upto list loop.words loop.invariant.0.inside))
-      c.loop-end-test.true in
+    let start = c in
+    let loop = c.loop-end in
+    let list = start.args.list.now in
+    reaches list start.args.zeros (loop.words + 1) loop.end start.requires.1
+    (omega (arith, loop.invariant.1, loop.invariant.0.counts, length_upto list loop.words loop.invariant.0.inside))
+    c.loop-end-test.true in
     omega (arith, (on).inside)
 
 pub offset_bounds-list-words-in-loop-end : goal.offset_bounds-list-words-in-loop-end
 offset_bounds-list-words-in-loop-end c =
     let on : let start = c in Reaches start.args.list.now start.args.zeros (record { words = c.loop-end.words + 1; groups = c.loop-end.end }) =
-      let start = c in
-      let loop = c.loop-end in
-      let list = start.args.list.now in
-      reaches list start.args.zeros (loop.words + 1) loop.end start.requires.1
-      (omega (arith, loop.invariant.1, loop.invariant.0.counts, length_upto list loop.words loop.invariant.0.inside))
-      c.loop-end-test.true in
+    let start = c in
+    let loop = c.loop-end in
+    let list = start.args.list.now in
+    reaches list start.args.zeros (loop.words + 1) loop.end start.requires.1
+    (omega (arith, loop.invariant.1, loop.invariant.0.counts, length_upto list loop.words loop.invariant.0.inside))
+    c.loop-end-test.true in
     omega (arith, (on).inside)
 
 pub bounds-list-words-in-loop-end : goal.bounds-list-words-in-loop-end
 bounds-list-words-in-loop-end c =
     let on : let start = c in Reaches start.args.list.now start.args.zeros (record { words = c.loop-end.words + 1; groups = c.loop-end.end }) =
-      let start = c in
-      let loop = c.loop-end in
-      let list = start.args.list.now in
-      reaches list start.args.zeros (loop.words + 1) loop.end start.requires.1
-      (omega (arith, loop.invariant.1, loop.invariant.0.counts, length_upto list loop.words loop.invariant.0.inside))
-      c.loop-end-test.true in
+    let start = c in
+    let loop = c.loop-end in
+    let list = start.args.list.now in
+    reaches list start.args.zeros (loop.words + 1) loop.end start.requires.1
+    (omega (arith, loop.invariant.1, loop.invariant.0.counts, length_upto list loop.words loop.invariant.0.inside))
+    c.loop-end-test.true in
     (on).inside
 
 pub overflow_add-end-in-loop-end : goal.overflow_add-end-in-loop-end
 overflow_add-end-in-loop-end c =
     let on : let start = c in Reaches start.args.list.now start.args.zeros (record { words = c.loop-end.words + 1; groups = c.loop-end.end }) =
-      let start = c in
-      let loop = c.loop-end in
-      let list = start.args.list.now in
-      reaches list start.args.zeros (loop.words + 1) loop.end start.requires.1
-      (omega (arith, loop.invariant.1, loop.invariant.0.counts, length_upto list loop.words loop.invariant.0.inside))
-      c.loop-end-test.true in
+    let start = c in
+    let loop = c.loop-end in
+    let list = start.args.list.now in
+    reaches list start.args.zeros (loop.words + 1) loop.end start.requires.1
+    (omega (arith, loop.invariant.1, loop.invariant.0.counts, length_upto list loop.words loop.invariant.0.inside))
+    c.loop-end-test.true in
     omega (arith, next-few _ _ _ (on), c.span_of-end.ensures)
 
 pub loop-end-smaller : goal.loop-end-smaller
 loop-end-smaller c =
     let on : let start = c in Reaches start.args.list.now start.args.zeros (record { words = c.loop-end.words + 1; groups = c.loop-end.end }) =
-      let start = c in
-      let loop = c.loop-end in
-      let list = start.args.list.now in
-      reaches list start.args.zeros (loop.words + 1) loop.end start.requires.1
-      (omega (arith, loop.invariant.1, loop.invariant.0.counts, length_upto list loop.words loop.invariant.0.inside))
-      c.loop-end-test.true in
+    let start = c in
+    let loop = c.loop-end in
+    let list = start.args.list.now in
+    reaches list start.args.zeros (loop.words + 1) loop.end start.requires.1
+    (omega (arith, loop.invariant.1, loop.invariant.0.counts, length_upto list loop.words loop.invariant.0.inside))
+    c.loop-end-test.true in
     omega (arith, (on).inside)
 
 pub loop-end-preserved : goal.loop-end-preserved
 loop-end-preserved c =
     let on : let start = c in Reaches start.args.list.now start.args.zeros (record { words = c.loop-end.words + 1; groups = c.loop-end.end }) =
-      let start = c in
-      let loop = c.loop-end in
-      let list = start.args.list.now in
-      reaches list start.args.zeros (loop.words + 1) loop.end start.requires.1
-      (omega (arith, loop.invariant.1, loop.invariant.0.counts, length_upto list loop.words loop.invariant.0.inside))
-      c.loop-end-test.true in
+    let start = c in
+    let loop = c.loop-end in
+    let list = start.args.list.now in
+    reaches list start.args.zeros (loop.words + 1) loop.end start.requires.1
+    (omega (arith, loop.invariant.1, loop.invariant.0.counts, length_upto list loop.words loop.invariant.0.inside))
+    c.loop-end-test.true in
     (on, rw c.span_of-end.ensures refl)
 
 pub returns : goal.returns

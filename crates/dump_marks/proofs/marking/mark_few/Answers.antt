@@ -11,13 +11,13 @@ loop-rest-init c = begin c.args.rows.now c.args.group c.args.value c.requires.0 
 pub overflow_sub-ahead : goal.overflow_sub-ahead
 overflow_sub-ahead c =
     let highest : Top c.loop-rest.rest (count_leading_zeros 32 c.loop-rest.rest) =
-      top c.loop-rest.rest c.loop-rest-test.true c.loop-rest.invariant.small in
+    top c.loop-rest.rest c.loop-rest-test.true c.loop-rest.invariant.small in
     omega (arith, (highest).placed, (highest).few)
 
 pub overflow_cast-row : goal.overflow_cast-row
 overflow_cast-row c =
     let highest : Top c.loop-rest.rest (count_leading_zeros 32 c.loop-rest.rest) =
-      top c.loop-rest.rest c.loop-rest-test.true c.loop-rest.invariant.small in
+    top c.loop-rest.rest c.loop-rest-test.true c.loop-rest.invariant.small in
     omega (arith, (highest).placed)
 
 pub shape_of-rows-then-rows-row : goal.shape_of-rows-then-rows-row
@@ -26,7 +26,7 @@ shape_of-rows-then-rows-row c = c.loop-rest.invariant.same
 pub returns-then-rows-row : goal.returns-then-rows-row
 returns-then-rows-row c =
     let highest : Top c.loop-rest.rest (count_leading_zeros 32 c.loop-rest.rest) =
-      top c.loop-rest.rest c.loop-rest-test.true c.loop-rest.invariant.small in
+    top c.loop-rest.rest c.loop-rest-test.true c.loop-rest.invariant.small in
     behind c.loop-rest.invariant _ (highest) c.if-rows-row.true
 
 pub bounds-rows-row : goal.bounds-rows-row
@@ -38,7 +38,7 @@ shape_of-rows-then-rows-row-2 c = c.loop-rest.invariant.same
 pub returns-then-rows-row-2 : goal.returns-then-rows-row-2
 returns-then-rows-row-2 c =
     let highest : Top c.loop-rest.rest (count_leading_zeros 32 c.loop-rest.rest) =
-      top c.loop-rest.rest c.loop-rest-test.true c.loop-rest.invariant.small in
+    top c.loop-rest.rest c.loop-rest-test.true c.loop-rest.invariant.small in
     taken c.loop-rest.invariant _ (highest) c.if-rows-row.false c.if-rows-row-2.true
 
 pub bounds-rows-row-in-loop-rest : goal.bounds-rows-row-in-loop-rest
@@ -47,27 +47,27 @@ bounds-rows-row-in-loop-rest c = c.if-rows-row.false
 pub overflow_shr-rest : goal.overflow_shr-rest
 overflow_shr-rest c =
     let highest : Top c.loop-rest.rest (count_leading_zeros 32 c.loop-rest.rest) =
-      top c.loop-rest.rest c.loop-rest-test.true c.loop-rest.invariant.small in
+    top c.loop-rest.rest c.loop-rest-test.true c.loop-rest.invariant.small in
     omega (arith, (highest).placed, (highest).few)
 
 pub overflow_sub-rest : goal.overflow_sub-rest
 overflow_sub-rest c =
     let highest : Top c.loop-rest.rest (count_leading_zeros 32 c.loop-rest.rest) =
-      top c.loop-rest.rest c.loop-rest-test.true c.loop-rest.invariant.small in
+    top c.loop-rest.rest c.loop-rest-test.true c.loop-rest.invariant.small in
     let t = highest in
     rw (mask _ _ t) t.under
 
 pub loop-rest-smaller : goal.loop-rest-smaller
 loop-rest-smaller c =
     let highest : Top c.loop-rest.rest (count_leading_zeros 32 c.loop-rest.rest) =
-      top c.loop-rest.rest c.loop-rest-test.true c.loop-rest.invariant.small in
+    top c.loop-rest.rest c.loop-rest-test.true c.loop-rest.invariant.small in
     let t = highest in
     rw (mask _ _ t) (shrinks _ _ t)
 
 pub loop-rest-preserved : goal.loop-rest-preserved
 loop-rest-preserved c =
     let highest : Top c.loop-rest.rest (count_leading_zeros 32 c.loop-rest.rest) =
-      top c.loop-rest.rest c.loop-rest-test.true c.loop-rest.invariant.small in
+    top c.loop-rest.rest c.loop-rest-test.true c.loop-rest.invariant.small in
     let t = highest in
     let free = c.if-rows-row-2.false in
     rw (mask _ _ t) (next_row c.loop-rest.invariant _ t c.if-rows-row.false free)

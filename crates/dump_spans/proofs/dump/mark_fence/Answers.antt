@@ -13,30 +13,30 @@ use Rattle.dump_spans.proofs.dump.mark_fence.Goals as goal
 pub overflow_cast-from : goal.overflow_cast-from
 overflow_cast-from c =
     let few-j : c.args.j ≤ 4096 =
-      omega (arith, few_visits c.args.issued c.args.sizes.spacing c.requires.0.some_spacing (omega (arith, c.requires.3, c.requires.0.few_rows)), c.requires.5) in
+    omega (arith, few_visits c.args.issued c.args.sizes.spacing c.requires.0.some_spacing (omega (arith, c.requires.3, c.requires.0.few_rows)), c.requires.5) in
     omega (arith, few-j)
 
 pub overflow_mul-from : goal.overflow_mul-from
 overflow_mul-from c =
     let first_group : c.args.j * c.args.sizes.spacing < groups_for c.args.issued =
-      visit_group c.args.issued c.args.sizes.spacing c.requires.0.some_spacing c.args.j c.requires.5 in
+    visit_group c.args.issued c.args.sizes.spacing c.requires.0.some_spacing c.args.j c.requires.5 in
     let few : groups_for c.args.issued ≤ 4096 =
-      omega (arith, c.requires.3, c.requires.0.few_rows) in
+    omega (arith, c.requires.3, c.requires.0.few_rows) in
     let start = c in omega (arith, first_group, few)
 
 pub overflow_add-from : goal.overflow_add-from
 overflow_add-from c =
     let first_group : c.args.j * c.args.sizes.spacing < groups_for c.args.issued =
-      visit_group c.args.issued c.args.sizes.spacing c.requires.0.some_spacing c.args.j c.requires.5 in
+    visit_group c.args.issued c.args.sizes.spacing c.requires.0.some_spacing c.args.j c.requires.5 in
     let few : groups_for c.args.issued ≤ 4096 =
-      omega (arith, c.requires.3, c.requires.0.few_rows) in
+    omega (arith, c.requires.3, c.requires.0.few_rows) in
     let start = c in
     omega (arith, first_group, few, start.requires.0.few_spacing)
 
 pub mark_span-requires : goal.mark_span-requires
 mark_span-requires c =
     let first_group : c.args.j * c.args.sizes.spacing < groups_for c.args.issued =
-      visit_group c.args.issued c.args.sizes.spacing c.requires.0.some_spacing c.args.j c.requires.5 in
+    visit_group c.args.issued c.args.sizes.spacing c.requires.0.some_spacing c.args.j c.requires.5 in
     let start = c in
     let to = c.smaller-to.ensures in
     let groups = c.groups_for.ensures in (

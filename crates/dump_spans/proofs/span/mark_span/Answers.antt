@@ -38,31 +38,31 @@ returns-then-sizes-update_length c =
 pub slice_bounds-mark_lists-count : goal.slice_bounds-mark_lists-count
 slice_bounds-mark_lists-count c =
     let short : value_length c.args.block.now ≤ value_room c.args.sizes =
-      omega arith in
+    omega arith in
     let inside : c.args.fence.place < value_length c.args.block.now =
-      omega arith in
+    omega arith in
     let long : length c.value_list-list.result.now ≡ value_length c.args.block.now =
-      ap length c.value_list-list.ensures ∙ length-value_list c.args.sizes c.args.block.now c.requires.1 (short) in
+    ap length c.value_list-list.ensures ∙ length-value_list c.args.sizes c.args.block.now c.requires.1 (short) in
     omega (arith, long, inside)
 
 pub slice_bounds-mark_lists-start : goal.slice_bounds-mark_lists-start
 slice_bounds-mark_lists-start c =
     let short : value_length c.args.block.now ≤ value_room c.args.sizes =
-      omega arith in
+    omega arith in
     let inside : c.args.fence.place < value_length c.args.block.now =
-      omega arith in
+    omega arith in
     let long : length c.value_list-list.result.now ≡ value_length c.args.block.now =
-      ap length c.value_list-list.ensures ∙ length-value_list c.args.sizes c.args.block.now c.requires.1 (short) in
+    ap length c.value_list-list.ensures ∙ length-value_list c.args.sizes c.args.block.now c.requires.1 (short) in
     omega (arith, long, inside)
 
 pub returns : goal.returns
 returns c =
     let short : value_length c.args.block.now ≤ value_room c.args.sizes =
-      omega arith in
+    omega arith in
     let inside : c.args.fence.place < value_length c.args.block.now =
-      omega arith in
+    omega arith in
     let few : update_length c.args.block.now ≤ update_room c.args.sizes =
-      omega arith in
+    omega arith in
     let lists = c in
     let args = lists.args in
     lists_told args.sizes args.fence args.block.now args.span args.rows.now (short) (inside) (few) _ _

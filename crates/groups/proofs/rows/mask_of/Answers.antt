@@ -5,5 +5,6 @@ use Rattle.groups.proofs.rows.mask_of.Goals as goal
 
 pub returns : goal.returns
 returns c = mask_at c.args.i c.requires
+
 -- LOST array-read-result : tie.Need-array-read-result
 -- array-read-result c = search rules

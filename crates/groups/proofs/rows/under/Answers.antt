@@ -7,4 +7,3 @@ returns-then-group-mask-eq0 c k e = mask_clear c.args.group k (rw (← e) c.if-g
 
 pub returns-else-group-mask-eq0 : goal.returns-else-group-mask-eq0
 returns-else-group-mask-eq0 c k e = mask_set c.args.group k (rw (← e) c.if-group-mask-eq0.false)
-

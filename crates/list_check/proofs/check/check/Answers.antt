@@ -34,21 +34,21 @@ tail_clear-requires c = omega (arith, c.groups_for-groups.ensures)
 pub returns-then-not-tail_clear : goal.returns-then-not-tail_clear
 returns-then-not-tail_clear c =
     let told : cond c.tail_clear.result Whole Bad ≡ check_of c.args.list.now c.args.length =
-      let a = c.args in
-      let keeps = c.keeps_form in
-      let groups = c.groups_for-groups in
-      let last = c.last_group in
-      ends a.list.now a.length groups.result groups.ensures (sym keeps.ensures ∙ c.if-not-keeps_form.false)
-      last.result last.ensures c.tail_clear.result c.tail_clear.ensures in
+    let a = c.args in
+    let keeps = c.keeps_form in
+    let groups = c.groups_for-groups in
+    let last = c.last_group in
+    ends a.list.now a.length groups.result groups.ensures (sym keeps.ensures ∙ c.if-not-keeps_form.false)
+    last.result last.ensures c.tail_clear.result c.tail_clear.ensures in
     ap (λ (t : Bool). cond t Whole Bad) (sym (c.if-not-tail_clear.true)) ∙ told
 
 pub returns : goal.returns
 returns c =
     let told : cond c.tail_clear.result Whole Bad ≡ check_of c.args.list.now c.args.length =
-      let a = c.args in
-      let keeps = c.keeps_form in
-      let groups = c.groups_for-groups in
-      let last = c.last_group in
-      ends a.list.now a.length groups.result groups.ensures (sym keeps.ensures ∙ c.if-not-keeps_form.false)
-      last.result last.ensures c.tail_clear.result c.tail_clear.ensures in
+    let a = c.args in
+    let keeps = c.keeps_form in
+    let groups = c.groups_for-groups in
+    let last = c.last_group in
+    ends a.list.now a.length groups.result groups.ensures (sym keeps.ensures ∙ c.if-not-keeps_form.false)
+    last.result last.ensures c.tail_clear.result c.tail_clear.ensures in
     ap (λ (t : Bool). cond t Whole Bad) (sym (c.if-not-tail_clear.false)) ∙ told

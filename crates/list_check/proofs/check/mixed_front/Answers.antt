@@ -19,6 +19,7 @@ loop-i-preserved c =
 
 pub returns : goal.returns
 returns c = c.loop-i.invariant
+
 -- LOST part-all-mixed-start : tie.Need-slice-bounds-all-mixed-start invariant-loop decreases-loop
 -- part-all-mixed-start c = omega arith
 -- LOST part-all-mixed-end : tie.Need-slice-bounds-all-mixed-end invariant-loop decreases-loop

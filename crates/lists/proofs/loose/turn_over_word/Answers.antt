@@ -28,7 +28,7 @@ returns-then-is_ones_fill c =
 pub returns-then-at-groups : goal.returns-then-at-groups
 returns-then-at-groups c =
     let no_ones : c.args.word < 0xC0000000 =
-      leb-false 0xC0000000 _ (sym c.is_ones_fill.ensures ∙ c.if-is_ones_fill.false) in
+    leb-false 0xC0000000 _ (sym c.is_ones_fill.ensures ∙ c.if-is_ones_fill.false) in
     let spanned = c in
     let start = spanned in (
       ap (◌+◌ start.args.at) spanned.span_of.ensures,
@@ -39,12 +39,13 @@ returns-then-at-groups c =
 pub returns-else-at-groups : goal.returns-else-at-groups
 returns-else-at-groups c =
     let no_ones : c.args.word < 0xC0000000 =
-      leb-false 0xC0000000 _ (sym c.is_ones_fill.ensures ∙ c.if-is_ones_fill.false) in
+    leb-false 0xC0000000 _ (sym c.is_ones_fill.ensures ∙ c.if-is_ones_fill.false) in
     let spanned = c in
     let start = spanned in (
       ap (◌+◌ start.args.at) spanned.span_of.ensures,
       none-turned start.args.groups.now start.args.at start.args.word start.requires.0 start.requires.1 (no_ones) c.if-at-groups.false,
     )
+
 -- LOST part-turn-over-each-start : tie.Need-slice-bounds-turn-over-each-start
 -- part-turn-over-each-start c = search rules
 -- LOST part-turn-over-each-end : tie.Need-slice-bounds-turn-over-each-end

@@ -20,11 +20,11 @@ blank = 0 ∷ 0 ∷ 0 ∷ []
 pub finish-count-requires : goal.finish-count-requires
 finish-count-requires c =
     let literal-stored : let start = c in Writing (one_row start.args.groups start.args.row) (uniform 0 (start.args.groups - start.args.row / 31 - 1)) blank c.store-at.new.out c.store-at.result c.next_step-literal.result.pending =
-      let start = c in
-      let step = c.next_step-literal in
-      rw (c.store-at.ensures.0, c.store-at.ensures.1)
-      (literal_on start.args.groups start.args.row blank (few-one_row start.args.groups start.args.row) step.result
-      (rw (mask_at (start.args.row % 31) (omega arith)) at step.ensures)) in
+    let start = c in
+    let step = c.next_step-literal in
+    rw (c.store-at.ensures.0, c.store-at.ensures.1)
+    (literal_on start.args.groups start.args.row blank (few-one_row start.args.groups start.args.row) step.result
+    (rw (mask_at (start.args.row % 31) (omega arith)) at step.ensures)) in
     let start = c in
     let step = c.next_step-literal.ensures in (
       step.is_bit,
@@ -35,11 +35,11 @@ finish-count-requires c =
 pub returns-then-after-eq0 : goal.returns-then-after-eq0
 returns-then-after-eq0 c =
     let literal-stored : let start = c in Writing (one_row start.args.groups start.args.row) (uniform 0 (start.args.groups - start.args.row / 31 - 1)) blank c.store-at.new.out c.store-at.result c.next_step-literal.result.pending =
-      let start = c in
-      let step = c.next_step-literal in
-      rw (c.store-at.ensures.0, c.store-at.ensures.1)
-      (literal_on start.args.groups start.args.row blank (few-one_row start.args.groups start.args.row) step.result
-      (rw (mask_at (start.args.row % 31) (omega arith)) at step.ensures)) in
+    let start = c in
+    let step = c.next_step-literal in
+    rw (c.store-at.ensures.0, c.store-at.ensures.1)
+    (literal_on start.args.groups start.args.row blank (few-one_row start.args.groups start.args.row) step.result
+    (rw (mask_at (start.args.row % 31) (omega arith)) at step.ensures)) in
     let start = c in
     let none = c.if-after-eq0.true in
     let finished = c.finish-count.ensures in
@@ -49,11 +49,11 @@ returns-then-after-eq0 c =
 pub store-end-requires : goal.store-end-requires
 store-end-requires c =
     let literal-stored : let start = c in Writing (one_row start.args.groups start.args.row) (uniform 0 (start.args.groups - start.args.row / 31 - 1)) blank c.store-at.new.out c.store-at.result c.next_step-literal.result.pending =
-      let start = c in
-      let step = c.next_step-literal in
-      rw (c.store-at.ensures.0, c.store-at.ensures.1)
-      (literal_on start.args.groups start.args.row blank (few-one_row start.args.groups start.args.row) step.result
-      (rw (mask_at (start.args.row % 31) (omega arith)) at step.ensures)) in
+    let start = c in
+    let step = c.next_step-literal in
+    rw (c.store-at.ensures.0, c.store-at.ensures.1)
+    (literal_on start.args.groups start.args.row blank (few-one_row start.args.groups start.args.row) step.result
+    (rw (mask_at (start.args.row % 31) (omega arith)) at step.ensures)) in
     let start = c in
     let step = c.next_step-zeros in
     let zeros = uniform 0 (start.args.groups - start.args.row / 31 - 1) in (
@@ -64,17 +64,17 @@ store-end-requires c =
 pub finish-count-requires-2 : goal.finish-count-requires-2
 finish-count-requires-2 c =
     let literal-stored : let start = c in Writing (one_row start.args.groups start.args.row) (uniform 0 (start.args.groups - start.args.row / 31 - 1)) blank c.store-at.new.out c.store-at.result c.next_step-literal.result.pending =
-      let start = c in
-      let step = c.next_step-literal in
-      rw (c.store-at.ensures.0, c.store-at.ensures.1)
-      (literal_on start.args.groups start.args.row blank (few-one_row start.args.groups start.args.row) step.result
-      (rw (mask_at (start.args.row % 31) (omega arith)) at step.ensures)) in
+    let start = c in
+    let step = c.next_step-literal in
+    rw (c.store-at.ensures.0, c.store-at.ensures.1)
+    (literal_on start.args.groups start.args.row blank (few-one_row start.args.groups start.args.row) step.result
+    (rw (mask_at (start.args.row % 31) (omega arith)) at step.ensures)) in
     let zeros-stored : let start = c in Writing (one_row start.args.groups start.args.row) [] blank c.store-end.new.out c.store-end.result c.next_step-zeros.result.pending =
-      let start = c in
-      let step = c.next_step-zeros in
-      let zeros = uniform 0 (start.args.groups - start.args.row / 31 - 1) in
-      rw (c.store-end.ensures.0, c.store-end.ensures.1)
-      (step_on (literal-stored) (few-one_row start.args.groups start.args.row) zeros [] step.result (sym (append-nil zeros)) step.ensures) in
+    let start = c in
+    let step = c.next_step-zeros in
+    let zeros = uniform 0 (start.args.groups - start.args.row / 31 - 1) in
+    rw (c.store-end.ensures.0, c.store-end.ensures.1)
+    (step_on (literal-stored) (few-one_row start.args.groups start.args.row) zeros [] step.result (sym (append-nil zeros)) step.ensures) in
     let start = c in
     let first = c.next_step-literal.ensures in
     let step = c.next_step-zeros.ensures in (
@@ -86,20 +86,21 @@ finish-count-requires-2 c =
 pub returns : goal.returns
 returns c =
     let literal-stored : let start = c in Writing (one_row start.args.groups start.args.row) (uniform 0 (start.args.groups - start.args.row / 31 - 1)) blank c.store-at.new.out c.store-at.result c.next_step-literal.result.pending =
-      let start = c in
-      let step = c.next_step-literal in
-      rw (c.store-at.ensures.0, c.store-at.ensures.1)
-      (literal_on start.args.groups start.args.row blank (few-one_row start.args.groups start.args.row) step.result
-      (rw (mask_at (start.args.row % 31) (omega arith)) at step.ensures)) in
+    let start = c in
+    let step = c.next_step-literal in
+    rw (c.store-at.ensures.0, c.store-at.ensures.1)
+    (literal_on start.args.groups start.args.row blank (few-one_row start.args.groups start.args.row) step.result
+    (rw (mask_at (start.args.row % 31) (omega arith)) at step.ensures)) in
     let zeros-stored : let start = c in Writing (one_row start.args.groups start.args.row) [] blank c.store-end.new.out c.store-end.result c.next_step-zeros.result.pending =
-      let start = c in
-      let step = c.next_step-zeros in
-      let zeros = uniform 0 (start.args.groups - start.args.row / 31 - 1) in
-      rw (c.store-end.ensures.0, c.store-end.ensures.1)
-      (step_on (literal-stored) (few-one_row start.args.groups start.args.row) zeros [] step.result (sym (append-nil zeros)) step.ensures) in
+    let start = c in
+    let step = c.next_step-zeros in
+    let zeros = uniform 0 (start.args.groups - start.args.row / 31 - 1) in
+    rw (c.store-end.ensures.0, c.store-end.ensures.1)
+    (step_on (literal-stored) (few-one_row start.args.groups start.args.row) zeros [] step.result (sym (append-nil zeros)) step.ensures) in
     let start = c in
     let finished = c.finish-count-2.ensures in
     rw (finished.0, finished.1)
     (packs start.args.groups start.args.row blank (few-one_row start.args.groups start.args.row) (zeros-stored) refl)
+
 -- LOST array-read-next-step : tie.Need-array-read-next-step
 -- array-read-next-step c = search rules

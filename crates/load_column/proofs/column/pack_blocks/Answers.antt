@@ -15,89 +15,89 @@ loop-value-init c =
 pub overflow_add-end : goal.overflow_add-end
 overflow_add-end c =
     let before_lent : let start = c in c.loop-value.value * block_size start.args.sizes ≤ length start.args.words.now =
-      let start = c in
-      omega (arith, mul-le-mul_right (block_size start.args.sizes) c.loop-value.invariant.0, start.requires.1) in
+    let start = c in
+    omega (arith, mul-le-mul_right (block_size start.args.sizes) c.loop-value.invariant.0, start.requires.1) in
     let long : length c.loop-value.words ≡ length c.args.words.now =
-      let start = c in
-      let a = start.args in
-      ap length c.loop-value.invariant.2 ∙ length_packs a.sizes start.requires.0 a.filled start.requires.2 a.words.now c.loop-value.value (before_lent) in
+    let start = c in
+    let a = start.args in
+    ap length c.loop-value.invariant.2 ∙ length_packs a.sizes start.requires.0 a.filled start.requires.2 a.words.now c.loop-value.value (before_lent) in
     let next-lent : c.loop-value.at + c.args.sizes.block ≤ length c.loop-value.words =
-      let start = c in
-      let loop = c.loop-value in
-      omega (
-        arith,
-        place-fits (block_size start.args.sizes) loop.value start.args.values c.loop-value-test.true,
-        start.requires.0.block_is,
-        start.requires.1,
-        loop.invariant.1,
-        long,
-      ) in
+    let start = c in
+    let loop = c.loop-value in
+    omega (
+      arith,
+      place-fits (block_size start.args.sizes) loop.value start.args.values c.loop-value-test.true,
+      start.requires.0.block_is,
+      start.requires.1,
+      loop.invariant.1,
+      long,
+    ) in
     omega (arith, next-lent, long)
 
 pub offset_bounds-words-at : goal.offset_bounds-words-at
 offset_bounds-words-at c =
     let before_lent : let start = c in c.loop-value.value * block_size start.args.sizes ≤ length start.args.words.now =
-      let start = c in
-      omega (arith, mul-le-mul_right (block_size start.args.sizes) c.loop-value.invariant.0, start.requires.1) in
+    let start = c in
+    omega (arith, mul-le-mul_right (block_size start.args.sizes) c.loop-value.invariant.0, start.requires.1) in
     let long : length c.loop-value.words ≡ length c.args.words.now =
-      let start = c in
-      let a = start.args in
-      ap length c.loop-value.invariant.2 ∙ length_packs a.sizes start.requires.0 a.filled start.requires.2 a.words.now c.loop-value.value (before_lent) in
+    let start = c in
+    let a = start.args in
+    ap length c.loop-value.invariant.2 ∙ length_packs a.sizes start.requires.0 a.filled start.requires.2 a.words.now c.loop-value.value (before_lent) in
     let next-lent : c.loop-value.at + c.args.sizes.block ≤ length c.loop-value.words =
-      let start = c in
-      let loop = c.loop-value in
-      omega (
-        arith,
-        place-fits (block_size start.args.sizes) loop.value start.args.values c.loop-value-test.true,
-        start.requires.0.block_is,
-        start.requires.1,
-        loop.invariant.1,
-        long,
-      ) in
+    let start = c in
+    let loop = c.loop-value in
+    omega (
+      arith,
+      place-fits (block_size start.args.sizes) loop.value start.args.values c.loop-value-test.true,
+      start.requires.0.block_is,
+      start.requires.1,
+      loop.invariant.1,
+      long,
+    ) in
     omega (arith, next-lent, long)
 
 pub slice_bounds-pack_block-end : goal.slice_bounds-pack_block-end
 slice_bounds-pack_block-end c =
     let before_lent : let start = c in c.loop-value.value * block_size start.args.sizes ≤ length start.args.words.now =
-      let start = c in
-      omega (arith, mul-le-mul_right (block_size start.args.sizes) c.loop-value.invariant.0, start.requires.1) in
+    let start = c in
+    omega (arith, mul-le-mul_right (block_size start.args.sizes) c.loop-value.invariant.0, start.requires.1) in
     let long : length c.loop-value.words ≡ length c.args.words.now =
-      let start = c in
-      let a = start.args in
-      ap length c.loop-value.invariant.2 ∙ length_packs a.sizes start.requires.0 a.filled start.requires.2 a.words.now c.loop-value.value (before_lent) in
+    let start = c in
+    let a = start.args in
+    ap length c.loop-value.invariant.2 ∙ length_packs a.sizes start.requires.0 a.filled start.requires.2 a.words.now c.loop-value.value (before_lent) in
     let next-lent : c.loop-value.at + c.args.sizes.block ≤ length c.loop-value.words =
-      let start = c in
-      let loop = c.loop-value in
-      omega (
-        arith,
-        place-fits (block_size start.args.sizes) loop.value start.args.values c.loop-value-test.true,
-        start.requires.0.block_is,
-        start.requires.1,
-        loop.invariant.1,
-        long,
-      ) in
+    let start = c in
+    let loop = c.loop-value in
+    omega (
+      arith,
+      place-fits (block_size start.args.sizes) loop.value start.args.values c.loop-value-test.true,
+      start.requires.0.block_is,
+      start.requires.1,
+      loop.invariant.1,
+      long,
+    ) in
     omega (arith, next-lent)
 
 pub pack_block-requires : goal.pack_block-requires
 pack_block-requires c =
     let before_lent : let start = c in c.loop-value.value * block_size start.args.sizes ≤ length start.args.words.now =
-      let start = c in
-      omega (arith, mul-le-mul_right (block_size start.args.sizes) c.loop-value.invariant.0, start.requires.1) in
+    let start = c in
+    omega (arith, mul-le-mul_right (block_size start.args.sizes) c.loop-value.invariant.0, start.requires.1) in
     let long : length c.loop-value.words ≡ length c.args.words.now =
-      let start = c in
-      let a = start.args in
-      ap length c.loop-value.invariant.2 ∙ length_packs a.sizes start.requires.0 a.filled start.requires.2 a.words.now c.loop-value.value (before_lent) in
+    let start = c in
+    let a = start.args in
+    ap length c.loop-value.invariant.2 ∙ length_packs a.sizes start.requires.0 a.filled start.requires.2 a.words.now c.loop-value.value (before_lent) in
     let next-lent : c.loop-value.at + c.args.sizes.block ≤ length c.loop-value.words =
-      let start = c in
-      let loop = c.loop-value in
-      omega (
-        arith,
-        place-fits (block_size start.args.sizes) loop.value start.args.values c.loop-value-test.true,
-        start.requires.0.block_is,
-        start.requires.1,
-        loop.invariant.1,
-        long,
-      ) in
+    let start = c in
+    let loop = c.loop-value in
+    omega (
+      arith,
+      place-fits (block_size start.args.sizes) loop.value start.args.values c.loop-value-test.true,
+      start.requires.0.block_is,
+      start.requires.1,
+      loop.invariant.1,
+      long,
+    ) in
     let start = c in
     let loop = c.loop-value in
     let size = loop.at + start.args.sizes.block - loop.at in
@@ -107,8 +107,8 @@ pack_block-requires c =
 pub loop-value-preserved : goal.loop-value-preserved
 loop-value-preserved c =
     let before_lent : let start = c in c.loop-value.value * block_size start.args.sizes ≤ length start.args.words.now =
-      let start = c in
-      omega (arith, mul-le-mul_right (block_size start.args.sizes) c.loop-value.invariant.0, start.requires.1) in
+    let start = c in
+    omega (arith, mul-le-mul_right (block_size start.args.sizes) c.loop-value.invariant.0, start.requires.1) in
     let start = c in
     let turn = c in
     let loop = turn.loop-value in
@@ -125,12 +125,12 @@ loop-value-preserved c =
 pub shape_of-words : goal.shape_of-words
 shape_of-words c =
     let before_lent : let start = c in c.loop-value.value * block_size start.args.sizes ≤ length start.args.words.now =
-      let start = c in
-      omega (arith, mul-le-mul_right (block_size start.args.sizes) c.loop-value.invariant.0, start.requires.1) in
+    let start = c in
+    omega (arith, mul-le-mul_right (block_size start.args.sizes) c.loop-value.invariant.0, start.requires.1) in
     let long : length c.loop-value.words ≡ length c.args.words.now =
-      let start = c in
-      let a = start.args in
-      ap length c.loop-value.invariant.2 ∙ length_packs a.sizes start.requires.0 a.filled start.requires.2 a.words.now c.loop-value.value (before_lent) in
+    let start = c in
+    let a = start.args in
+    ap length c.loop-value.invariant.2 ∙ length_packs a.sizes start.requires.0 a.filled start.requires.2 a.words.now c.loop-value.value (before_lent) in
     long
 
 pub returns : goal.returns

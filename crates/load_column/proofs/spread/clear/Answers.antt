@@ -9,7 +9,7 @@ loop-i-init c = (omega arith, refl)
 pub bounds-words-i : goal.bounds-words-i
 bounds-words-i c =
     let same : length c.loop-i.words ≡ length c.args.words.now =
-      ap length c.loop-i.invariant.1 ∙ length-cleared c.args.words.now c.loop-i.i (omega (arith, c.loop-i.invariant.0, c.requires)) in
+    ap length c.loop-i.invariant.1 ∙ length-cleared c.args.words.now c.loop-i.i (omega (arith, c.loop-i.invariant.0, c.requires)) in
     omega (arith, same)
 
 pub loop-i-preserved : goal.loop-i-preserved
@@ -22,7 +22,7 @@ loop-i-preserved c =
 pub shape_of-words : goal.shape_of-words
 shape_of-words c =
     let same : length c.loop-i.words ≡ length c.args.words.now =
-      ap length c.loop-i.invariant.1 ∙ length-cleared c.args.words.now c.loop-i.i (omega (arith, c.loop-i.invariant.0, c.requires)) in
+    ap length c.loop-i.invariant.1 ∙ length-cleared c.args.words.now c.loop-i.i (omega (arith, c.loop-i.invariant.0, c.requires)) in
     same
 
 pub returns : goal.returns

@@ -11,22 +11,22 @@ loop-value-init c = (omega arith, omega arith, place_none c.args.block c.args.pl
 pub offset_bounds-words-at : goal.offset_bounds-words-at
 offset_bounds-words-at c =
     let inside : let start = c in c.loop-value.value * start.args.block + start.args.block ≤ length start.args.words.now =
-      let start = c in
-      omega (arith, place-fits start.args.block c.loop-value.value start.args.values c.loop-value-test.true, start.requires.2) in
+    let start = c in
+    omega (arith, place-fits start.args.block c.loop-value.value start.args.values c.loop-value-test.true, start.requires.2) in
     omega (arith, inside, c.loop-value.invariant.1)
 
 pub bounds-words-at : goal.bounds-words-at
 bounds-words-at c =
     let inside : let start = c in c.loop-value.value * start.args.block + start.args.block ≤ length start.args.words.now =
-      let start = c in
-      omega (arith, place-fits start.args.block c.loop-value.value start.args.values c.loop-value-test.true, start.requires.2) in
+    let start = c in
+    omega (arith, place-fits start.args.block c.loop-value.value start.args.values c.loop-value-test.true, start.requires.2) in
     omega (arith, inside, c.loop-value.invariant.1, c.loop-value.invariant.2.same)
 
 pub overflow_add-at : goal.overflow_add-at
 overflow_add-at c =
     let inside : let start = c in c.loop-value.value * start.args.block + start.args.block ≤ length start.args.words.now =
-      let start = c in
-      omega (arith, place-fits start.args.block c.loop-value.value start.args.values c.loop-value-test.true, start.requires.2) in
+    let start = c in
+    omega (arith, place-fits start.args.block c.loop-value.value start.args.values c.loop-value-test.true, start.requires.2) in
     omega (arith, inside, c.loop-value.invariant.1)
 
 pub loop-value-preserved : goal.loop-value-preserved

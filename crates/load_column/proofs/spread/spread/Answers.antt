@@ -7,19 +7,19 @@ use Rattle.load_column.proofs.spread.spread.Goals as goal
 pub overflow_mul-values : goal.overflow_mul-values
 overflow_mul-values c =
     let lent : c.args.values * c.args.sizes.block ≤ length c.args.words.now =
-      rw c.requires.0.block_is c.requires.1 in
+    rw c.requires.0.block_is c.requires.1 in
     omega (arith, lent)
 
 pub clear-requires : goal.clear-requires
 clear-requires c =
     let lent : c.args.values * c.args.sizes.block ≤ length c.args.words.now =
-      rw c.requires.0.block_is c.requires.1 in
+    rw c.requires.0.block_is c.requires.1 in
     lent
 
 pub loop-at-init : goal.loop-at-init
 loop-at-init c =
     let lent : c.args.values * c.args.sizes.block ≤ length c.args.words.now =
-      rw c.requires.0.block_is c.requires.1 in
+    rw c.requires.0.block_is c.requires.1 in
     let start = c in
     let cleared = c.clear in
     let a = start.args in
@@ -29,14 +29,14 @@ loop-at-init c =
 pub spread_group-requires : goal.spread_group-requires
 spread_group-requires c =
     let room : 2 + groups_for (length c.args.column.now) ≤ c.args.sizes.block =
-      omega (arith, c.requires.0.groups_are, c.requires.0.value_room_is, c.requires.0.block_is, c.requires.3) in
+    omega (arith, c.requires.0.groups_are, c.requires.0.value_room_is, c.requires.0.block_is, c.requires.3) in
     let lent : c.args.values * c.args.sizes.block ≤ length c.args.words.now =
-      rw c.requires.0.block_is c.requires.1 in
+    rw c.requires.0.block_is c.requires.1 in
     let same : length c.clear.new.words ≡ length c.args.words.now =
-      let a = c.args in
-      ap length c.clear.ensures ∙ length-cleared a.words.now (a.values * a.sizes.block) (lent) in
+    let a = c.args in
+    ap length c.clear.ensures ∙ length-cleared a.words.now (a.values * a.sizes.block) (lent) in
     let still-lent : let a = c.args in a.values * a.sizes.block ≤ length c.clear.new.words =
-      omega (arith, same, lent) in
+    omega (arith, same, lent) in
     let start = c in
     let cleared = c in
     let loop = c.loop-at in
@@ -58,14 +58,14 @@ overflow_add-place c =
 pub loop-at-preserved : goal.loop-at-preserved
 loop-at-preserved c =
     let room : 2 + groups_for (length c.args.column.now) ≤ c.args.sizes.block =
-      omega (arith, c.requires.0.groups_are, c.requires.0.value_room_is, c.requires.0.block_is, c.requires.3) in
+    omega (arith, c.requires.0.groups_are, c.requires.0.value_room_is, c.requires.0.block_is, c.requires.3) in
     let lent : c.args.values * c.args.sizes.block ≤ length c.args.words.now =
-      rw c.requires.0.block_is c.requires.1 in
+    rw c.requires.0.block_is c.requires.1 in
     let same : length c.clear.new.words ≡ length c.args.words.now =
-      let a = c.args in
-      ap length c.clear.ensures ∙ length-cleared a.words.now (a.values * a.sizes.block) (lent) in
+    let a = c.args in
+    ap length c.clear.ensures ∙ length-cleared a.words.now (a.values * a.sizes.block) (lent) in
     let still-lent : let a = c.args in a.values * a.sizes.block ≤ length c.clear.new.words =
-      omega (arith, same, lent) in
+    omega (arith, same, lent) in
     let loop = c.loop-at in
     let end = c.smaller-end in
     let placed = c.spread_group in
@@ -75,23 +75,23 @@ loop-at-preserved c =
 pub shape_of-words : goal.shape_of-words
 shape_of-words c =
     let lent : c.args.values * c.args.sizes.block ≤ length c.args.words.now =
-      rw c.requires.0.block_is c.requires.1 in
+    rw c.requires.0.block_is c.requires.1 in
     let same : length c.clear.new.words ≡ length c.args.words.now =
-      let a = c.args in
-      ap length c.clear.ensures ∙ length-cleared a.words.now (a.values * a.sizes.block) (lent) in
+    let a = c.args in
+    ap length c.clear.ensures ∙ length-cleared a.words.now (a.values * a.sizes.block) (lent) in
     c.loop-at.invariant.same ∙ same
 
 pub returns : goal.returns
 returns c =
     let room : 2 + groups_for (length c.args.column.now) ≤ c.args.sizes.block =
-      omega (arith, c.requires.0.groups_are, c.requires.0.value_room_is, c.requires.0.block_is, c.requires.3) in
+    omega (arith, c.requires.0.groups_are, c.requires.0.value_room_is, c.requires.0.block_is, c.requires.3) in
     let lent : c.args.values * c.args.sizes.block ≤ length c.args.words.now =
-      rw c.requires.0.block_is c.requires.1 in
+    rw c.requires.0.block_is c.requires.1 in
     let same : length c.clear.new.words ≡ length c.args.words.now =
-      let a = c.args in
-      ap length c.clear.ensures ∙ length-cleared a.words.now (a.values * a.sizes.block) (lent) in
+    let a = c.args in
+    ap length c.clear.ensures ∙ length-cleared a.words.now (a.values * a.sizes.block) (lent) in
     let still-lent : let a = c.args in a.values * a.sizes.block ≤ length c.clear.new.words =
-      omega (arith, same, lent) in
+    omega (arith, same, lent) in
     let start = c in
     let cleared = c in
     let a = start.args in

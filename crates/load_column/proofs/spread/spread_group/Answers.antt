@@ -9,13 +9,13 @@ use Rattle.load_column.proofs.spread.spread_group.Goals as goal
 pub bounds-rows-0 : goal.bounds-rows-0
 bounds-rows-0 c =
     let is_one : one_byte c.args.rows.now ≡ true =
-      sym c.one_byte.ensures ∙ c.if-one_byte.true in
+    sym c.one_byte.ensures ∙ c.if-one_byte.true in
     omega (arith, whole_length c.args.rows.now (is_one))
 
 pub returns-then-one_byte : goal.returns-then-one_byte
 returns-then-one_byte c =
     let is_one : one_byte c.args.rows.now ≡ true =
-      sym c.one_byte.ensures ∙ c.if-one_byte.true in
+    sym c.one_byte.ensures ∙ c.if-one_byte.true in
     place_same c.put_whole.ensures
     (λ value below. whole_group c.args.rows.now (is_one) value)
 

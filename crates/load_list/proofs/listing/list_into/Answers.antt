@@ -14,7 +14,7 @@ loop-i-init c = (omega arith, follows_none none 0 c.args.out.now (omega arith))
 pub put_part-listed-requires : goal.put_part-listed-requires
 put_part-listed-requires c =
     let fits : Fits none c.args.groups.now 0 c.args.out.now =
-      groups_fit c.args.total c.args.groups.now c.args.out.now c.requires.0 c.requires.1 c.requires.2 c.requires.3 in
+    groups_fit c.args.total c.args.groups.now c.args.out.now c.requires.0 c.requires.1 c.requires.2 c.requires.3 in
     let start = c in
     let loop = c.loop-i in
     let groups = start.args.groups.now in
@@ -26,7 +26,7 @@ put_part-listed-requires c =
 pub loop-i-preserved : goal.loop-i-preserved
 loop-i-preserved c =
     let fits : Fits none c.args.groups.now 0 c.args.out.now =
-      groups_fit c.args.total c.args.groups.now c.args.out.now c.requires.0 c.requires.1 c.requires.2 c.requires.3 in
+    groups_fit c.args.total c.args.groups.now c.args.out.now c.requires.0 c.requires.1 c.requires.2 c.requires.3 in
     let loop = c.loop-i in (
       omega arith,
       part_follows (fits) loop.i loop.invariant.1 (loop.i + 8) (omega arith) c.put_part-listed.ensures,
@@ -35,7 +35,7 @@ loop-i-preserved c =
 pub put_each-listed-requires : goal.put_each-listed-requires
 put_each-listed-requires c =
     let fits : Fits none c.args.groups.now 0 c.args.out.now =
-      groups_fit c.args.total c.args.groups.now c.args.out.now c.requires.0 c.requires.1 c.requires.2 c.requires.3 in
+    groups_fit c.args.total c.args.groups.now c.args.out.now c.requires.0 c.requires.1 c.requires.2 c.requires.3 in
     let start = c in
     let loop = c.loop-i in
     part-fits (fits) loop.i loop.invariant.1 (length start.args.groups.now - loop.i)
@@ -43,12 +43,12 @@ put_each-listed-requires c =
 pub step_zeros-step-requires : goal.step_zeros-step-requires
 step_zeros-step-requires c =
     let fits : Fits none c.args.groups.now 0 c.args.out.now =
-      groups_fit c.args.total c.args.groups.now c.args.out.now c.requires.0 c.requires.1 c.requires.2 c.requires.3 in
+    groups_fit c.args.total c.args.groups.now c.args.out.now c.requires.0 c.requires.1 c.requires.2 c.requires.3 in
     let all-passed : let args = c.args in Follows none args.groups.now 0 args.out.now c.put_each-listed.result c.put_each-listed.new.out =
-      let start = c in
-      let loop = c.loop-i in
-      let groups = start.args.groups.now in
-      rw (take-length groups) at (part_follows (fits) loop.i loop.invariant.1 (length groups) loop.invariant.0 c.put_each-listed.ensures) in
+    let start = c in
+    let loop = c.loop-i in
+    let groups = start.args.groups.now in
+    rw (take-length groups) at (part_follows (fits) loop.i loop.invariant.1 (length groups) loop.invariant.0 c.put_each-listed.ensures) in
     let passed = all-passed in
     let pre = c.requires in
     (passed.is_bit, omega (arith, passed.grows, pre.0, pre.1))
@@ -56,12 +56,12 @@ step_zeros-step-requires c =
 pub store-written-requires : goal.store-written-requires
 store-written-requires c =
     let fits : Fits none c.args.groups.now 0 c.args.out.now =
-      groups_fit c.args.total c.args.groups.now c.args.out.now c.requires.0 c.requires.1 c.requires.2 c.requires.3 in
+    groups_fit c.args.total c.args.groups.now c.args.out.now c.requires.0 c.requires.1 c.requires.2 c.requires.3 in
     let all-passed : let args = c.args in Follows none args.groups.now 0 args.out.now c.put_each-listed.result c.put_each-listed.new.out =
-      let start = c in
-      let loop = c.loop-i in
-      let groups = start.args.groups.now in
-      rw (take-length groups) at (part_follows (fits) loop.i loop.invariant.1 (length groups) loop.invariant.0 c.put_each-listed.ensures) in
+    let start = c in
+    let loop = c.loop-i in
+    let groups = start.args.groups.now in
+    rw (take-length groups) at (part_follows (fits) loop.i loop.invariant.1 (length groups) loop.invariant.0 c.put_each-listed.ensures) in
     let start = c in
     let a = start.args in
     let step = c.step_zeros-step.ensures in (
@@ -72,12 +72,12 @@ store-written-requires c =
 pub finish-requires : goal.finish-requires
 finish-requires c =
     let fits : Fits none c.args.groups.now 0 c.args.out.now =
-      groups_fit c.args.total c.args.groups.now c.args.out.now c.requires.0 c.requires.1 c.requires.2 c.requires.3 in
+    groups_fit c.args.total c.args.groups.now c.args.out.now c.requires.0 c.requires.1 c.requires.2 c.requires.3 in
     let all-passed : let args = c.args in Follows none args.groups.now 0 args.out.now c.put_each-listed.result c.put_each-listed.new.out =
-      let start = c in
-      let loop = c.loop-i in
-      let groups = start.args.groups.now in
-      rw (take-length groups) at (part_follows (fits) loop.i loop.invariant.1 (length groups) loop.invariant.0 c.put_each-listed.ensures) in
+    let start = c in
+    let loop = c.loop-i in
+    let groups = start.args.groups.now in
+    rw (take-length groups) at (part_follows (fits) loop.i loop.invariant.1 (length groups) loop.invariant.0 c.put_each-listed.ensures) in
     let start = c in
     let a = start.args in
     let passed = all-passed in
@@ -92,24 +92,24 @@ finish-requires c =
 pub shape_of-out : goal.shape_of-out
 shape_of-out c =
     let fits : Fits none c.args.groups.now 0 c.args.out.now =
-      groups_fit c.args.total c.args.groups.now c.args.out.now c.requires.0 c.requires.1 c.requires.2 c.requires.3 in
+    groups_fit c.args.total c.args.groups.now c.args.out.now c.requires.0 c.requires.1 c.requires.2 c.requires.3 in
     let all-passed : let args = c.args in Follows none args.groups.now 0 args.out.now c.put_each-listed.result c.put_each-listed.new.out =
-      let start = c in
-      let loop = c.loop-i in
-      let groups = start.args.groups.now in
-      rw (take-length groups) at (part_follows (fits) loop.i loop.invariant.1 (length groups) loop.invariant.0 c.put_each-listed.ensures) in
+    let start = c in
+    let loop = c.loop-i in
+    let groups = start.args.groups.now in
+    rw (take-length groups) at (part_follows (fits) loop.i loop.invariant.1 (length groups) loop.invariant.0 c.put_each-listed.ensures) in
     ap length c.finish.ensures.1
     ∙ simp length-sets (ap length c.store-written.ensures.1 ∙ simp length-sets (length_left (all-passed)))
 
 pub returns : goal.returns
 returns c =
     let fits : Fits none c.args.groups.now 0 c.args.out.now =
-      groups_fit c.args.total c.args.groups.now c.args.out.now c.requires.0 c.requires.1 c.requires.2 c.requires.3 in
+    groups_fit c.args.total c.args.groups.now c.args.out.now c.requires.0 c.requires.1 c.requires.2 c.requires.3 in
     let all-passed : let args = c.args in Follows none args.groups.now 0 args.out.now c.put_each-listed.result c.put_each-listed.new.out =
-      let start = c in
-      let loop = c.loop-i in
-      let groups = start.args.groups.now in
-      rw (take-length groups) at (part_follows (fits) loop.i loop.invariant.1 (length groups) loop.invariant.0 c.put_each-listed.ensures) in
+    let start = c in
+    let loop = c.loop-i in
+    let groups = start.args.groups.now in
+    rw (take-length groups) at (part_follows (fits) loop.i loop.invariant.1 (length groups) loop.invariant.0 c.put_each-listed.ensures) in
     let start = c in
     let a = start.args in
     let stored = c.store-written.ensures in
@@ -117,6 +117,7 @@ returns c =
     rw (finished.0, finished.1, stored.0, stored.1)
     (ends a.total a.groups.now a.out.now start.requires.0 start.requires.1 start.requires.2 start.requires.3
     (all-passed) c.step_zeros-step.ensures)
+
 -- LOST part-put-part-start : tie.Need-slice-bounds-put-part-start invariant-loop decreases-loop
 -- part-put-part-start c = omega arith
 -- LOST part-put-part-end : tie.Need-slice-bounds-put-part-end invariant-loop decreases-loop

@@ -25,11 +25,11 @@ pub put_value-requires : goal.put_value-requires
 unfolding packed_list
 put_value-requires c =
     let made : List ℕ =
-      packed_list c.args.sizes c.args.filled c.args.block.now in
+    packed_list c.args.sizes c.args.filled c.args.block.now in
     let fits : length (made) ≤ value_room c.args.sizes =
-      length-packed_list c.args.sizes c.requires.0 c.args.filled c.requires.2 c.args.block.now in
+    length-packed_list c.args.sizes c.requires.0 c.args.filled c.requires.2 c.args.block.now in
     let stands : let list = made in (c.list_into-count.result ≡ length list) × (c.list_into-count.new.out ≡ list ++ drop c.list_into-count.result (replicate 4096 0)) =
-      rw c.value_front.ensures at c.list_into-count.ensures in
+    rw c.value_front.ensures at c.list_into-count.ensures in
     let start = c in
     let room = few_words start.args.sizes start.requires.0 in
     (start.requires.0, start.requires.1, omega (arith, fits, (stands).0), omega (arith, room))
@@ -38,11 +38,11 @@ pub returns : goal.returns
 unfolding packed_block packed_list
 returns c =
     let made : List ℕ =
-      packed_list c.args.sizes c.args.filled c.args.block.now in
+    packed_list c.args.sizes c.args.filled c.args.block.now in
     let fits : length (made) ≤ value_room c.args.sizes =
-      length-packed_list c.args.sizes c.requires.0 c.args.filled c.requires.2 c.args.block.now in
+    length-packed_list c.args.sizes c.requires.0 c.args.filled c.requires.2 c.args.block.now in
     let stands : let list = made in (c.list_into-count.result ≡ length list) × (c.list_into-count.new.out ≡ list ++ drop c.list_into-count.result (replicate 4096 0)) =
-      rw c.value_front.ensures at c.list_into-count.ensures in
+    rw c.value_front.ensures at c.list_into-count.ensures in
     let start = c in
     let a = start.args in
     let aside = c in

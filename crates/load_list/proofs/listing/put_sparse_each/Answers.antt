@@ -18,16 +18,16 @@ loop-i-init c =
 pub put_sparse-written-requires : goal.put_sparse-written-requires
 put_sparse-written-requires c =
     let more : c.loop-i.i < length c.args.groups.now =
-      omega (arith, c.loop-i-test.true, c.requires.1) in
+    omega (arith, c.loop-i-test.true, c.requires.1) in
     let group-fits : let loop = c.loop-i in Fits (zeros_pending loop.zeros) (get_or c.args.groups.now loop.i 0 ∷ []) loop.written loop.out =
-      let start = c in
-      let loop = c.loop-i in
-      rw (one_group start.args.groups.now loop.i (more)) at (part-fits start.requires.0 loop.i loop.invariant.1 (loop.i + 1 - loop.i)) in
+    let start = c in
+    let loop = c.loop-i in
+    rw (one_group start.args.groups.now loop.i (more)) at (part-fits start.requires.0 loop.i loop.invariant.1 (loop.i + 1 - loop.i)) in
     let group-taken : let loop = c.loop-i in let group = get_or c.args.groups.now loop.i 0 in Takes (zeros_pending loop.zeros) (group ∷ []) (sparse_step loop.zeros group) =
-      let start = c in
-      let loop = c.loop-i in
-      let groups = start.args.groups.now in
-      sparse_takes loop.zeros (get_or groups loop.i 0) (none-full groups start.requires.2 loop.i (more)) in
+    let start = c in
+    let loop = c.loop-i in
+    let groups = start.args.groups.now in
+    sparse_takes loop.zeros (get_or groups loop.i 0) (none-full groups start.requires.2 loop.i (more)) in
     let turn = c in
     let fits = group-fits in
     (omega (arith, fits.few), some_room fits (omega arith), fits.clear turn.loop-i.written (omega arith), step_fits fits (group-taken))
@@ -35,22 +35,22 @@ put_sparse-written-requires c =
 pub zeros_after-zeros-requires : goal.zeros_after-zeros-requires
 zeros_after-zeros-requires c =
     let more : c.loop-i.i < length c.args.groups.now =
-      omega (arith, c.loop-i-test.true, c.requires.1) in
+    omega (arith, c.loop-i-test.true, c.requires.1) in
     let group-fits : let loop = c.loop-i in Fits (zeros_pending loop.zeros) (get_or c.args.groups.now loop.i 0 ∷ []) loop.written loop.out =
-      let start = c in
-      let loop = c.loop-i in
-      rw (one_group start.args.groups.now loop.i (more)) at (part-fits start.requires.0 loop.i loop.invariant.1 (loop.i + 1 - loop.i)) in
+    let start = c in
+    let loop = c.loop-i in
+    rw (one_group start.args.groups.now loop.i (more)) at (part-fits start.requires.0 loop.i loop.invariant.1 (loop.i + 1 - loop.i)) in
     omega (arith, (group-fits).few)
 
 pub loop-i-preserved : goal.loop-i-preserved
 loop-i-preserved c =
     let more : c.loop-i.i < length c.args.groups.now =
-      omega (arith, c.loop-i-test.true, c.requires.1) in
+    omega (arith, c.loop-i-test.true, c.requires.1) in
     let group-taken : let loop = c.loop-i in let group = get_or c.args.groups.now loop.i 0 in Takes (zeros_pending loop.zeros) (group ∷ []) (sparse_step loop.zeros group) =
-      let start = c in
-      let loop = c.loop-i in
-      let groups = start.args.groups.now in
-      sparse_takes loop.zeros (get_or groups loop.i 0) (none-full groups start.requires.2 loop.i (more)) in
+    let start = c in
+    let loop = c.loop-i in
+    let groups = start.args.groups.now in
+    sparse_takes loop.zeros (get_or groups loop.i 0) (none-full groups start.requires.2 loop.i (more)) in
     let start = c in
     let turn = c in
     let loop = turn.loop-i in

@@ -18,22 +18,22 @@ returns-then-not-header_holds c =
 pub sizes_for-sizes-requires : goal.sizes_for-sizes-requires
 sizes_for-sizes-requires c =
     let header : Header =
-      c.args.header in
+    c.args.header in
     let holds : within_limits (header) ≡ true =
-      held c.header_holds.ensures c.if-not-header_holds.false in
+    held c.header_holds.ensures c.if-not-header_holds.false in
     let numbers : Within (header) =
-      within (header) (holds) in
+    within (header) (holds) in
     let n = numbers in
     (n.some_rows, n.few_rows, n.some_threshold, n.few_threshold, n.some_spacing, n.few_spacing)
 
 pub overflow_mul-values : goal.overflow_mul-values
 overflow_mul-values c =
     let header : Header =
-      c.args.header in
+    c.args.header in
     let holds : within_limits (header) ≡ true =
-      held c.header_holds.ensures c.if-not-header_holds.false in
+    held c.header_holds.ensures c.if-not-header_holds.false in
     let numbers : Within (header) =
-      within (header) (holds) in
+    within (header) (holds) in
     let sizes = c.sizes_for-sizes in
     let n = numbers in
     rw sizes.ensures.1.block_is (omega (arith, blocks_bound sizes.result sizes.ensures.1 _ n.few_values))
@@ -41,9 +41,9 @@ overflow_mul-values c =
 pub returns-then-words-values : goal.returns-then-words-values
 returns-then-words-values c =
     let header : Header =
-      c.args.header in
+    c.args.header in
     let holds : within_limits (header) ≡ true =
-      held c.header_holds.ensures c.if-not-header_holds.false in
+    held c.header_holds.ensures c.if-not-header_holds.false in
     let args = c.args in
     let sizes = c.sizes_for-sizes in
     few_words args.words args.fences args.header (holds) sizes.result sizes.ensures.0 c.if-words-values.true
@@ -51,11 +51,11 @@ returns-then-words-values c =
 pub overflow_mul-values-2 : goal.overflow_mul-values-2
 overflow_mul-values-2 c =
     let header : Header =
-      c.args.header in
+    c.args.header in
     let holds : within_limits (header) ≡ true =
-      held c.header_holds.ensures c.if-not-header_holds.false in
+    held c.header_holds.ensures c.if-not-header_holds.false in
     let numbers : Within (header) =
-      within (header) (holds) in
+    within (header) (holds) in
     let sizes = c.sizes_for-sizes in
     let n = numbers in
     rw sizes.ensures.1.fences_are (omega (arith, fences_bound sizes.result sizes.ensures.1 _ n.few_values))
@@ -63,9 +63,9 @@ overflow_mul-values-2 c =
 pub returns-then-fences-values : goal.returns-then-fences-values
 returns-then-fences-values c =
     let header : Header =
-      c.args.header in
+    c.args.header in
     let holds : within_limits (header) ≡ true =
-      held c.header_holds.ensures c.if-not-header_holds.false in
+    held c.header_holds.ensures c.if-not-header_holds.false in
     let args = c.args in
     let sizes = c.sizes_for-sizes in
     few_fences args.words args.fences args.header (holds) sizes.result sizes.ensures.0 c.if-words-values.false c.if-fences-values.true
@@ -73,9 +73,9 @@ returns-then-fences-values c =
 pub returns : goal.returns
 returns c =
     let header : Header =
-      c.args.header in
+    c.args.header in
     let holds : within_limits (header) ≡ true =
-      held c.header_holds.ensures c.if-not-header_holds.false in
+    held c.header_holds.ensures c.if-not-header_holds.false in
     let args = c.args in
     let sizes = c.sizes_for-sizes in
     enters args.words args.fences args.header (holds) sizes.result sizes.ensures.0 c.if-words-values.false c.if-fences-values.false

@@ -17,26 +17,26 @@ use Rattle.memory.proofs.fence.find_fence.Goals as goal
 pub overflow_cast-group : goal.overflow_cast-group
 overflow_cast-group c =
     let few-j : c.args.j ≤ 4096 =
-      let sizes = c.args.sizes in
-      omega (arith, few_fences sizes c.requires.0, few-groups sizes c.requires.0, c.requires.3) in
+    let sizes = c.args.sizes in
+    omega (arith, few_fences sizes c.requires.0, few-groups sizes c.requires.0, c.requires.3) in
     omega (arith, few-j)
 
 pub overflow_mul-group : goal.overflow_mul-group
 overflow_mul-group c =
     let few-group : c.args.j * c.args.sizes.spacing ≤ 4096 =
-      let sizes = c.args.sizes in
-      omega (arith, fence_group sizes c.requires.0 c.args.j c.requires.3, few-groups sizes c.requires.0) in
+    let sizes = c.args.sizes in
+    omega (arith, fence_group sizes c.requires.0 c.args.j c.requires.3, few-groups sizes c.requires.0) in
     omega (arith, few-group)
 
 pub next_fence-requires : goal.next_fence-requires
 next_fence-requires c =
     let list : List ℕ =
-      list_at c.args.sizes c.args.words.now c.args.value in
+    list_at c.args.sizes c.args.words.now c.args.value in
     let stands : Stands (list) (c.args.j * c.args.sizes.spacing) c.args.before =
-      rw c.requires.4 (before_stands c.args.sizes (list) c.args.j) in
+    rw c.requires.4 (before_stands c.args.sizes (list) c.args.j) in
     let few-group : c.args.j * c.args.sizes.spacing ≤ 4096 =
-      let sizes = c.args.sizes in
-      omega (arith, fence_group sizes c.requires.0 c.args.j c.requires.3, few-groups sizes c.requires.0) in
+    let sizes = c.args.sizes in
+    omega (arith, fence_group sizes c.requires.0 c.args.j c.requires.3, few-groups sizes c.requires.0) in
     let start = c in
     let a = start.args in
     let stand = stands in
@@ -52,7 +52,7 @@ next_fence-requires c =
 pub returns : goal.returns
 returns c =
     let list : List ℕ =
-      list_at c.args.sizes c.args.words.now c.args.value in
+    list_at c.args.sizes c.args.words.now c.args.value in
     let start = c in
     let a = start.args in
     let group = a.j * a.sizes.spacing in

@@ -13,25 +13,25 @@ use Rattle.memory.proofs.place.block_of.Goals as goal
 pub overflow_mul-at : goal.overflow_mul-at
 overflow_mul-at c =
     let within : c.args.value * c.args.sizes.block + c.args.sizes.block ≤ length c.args.words.now =
-      inside_words c.args.sizes c.requires.0 (length c.args.words.now) c.args.value c.requires.1 in
+    inside_words c.args.sizes c.requires.0 (length c.args.words.now) c.args.value c.requires.1 in
     omega (arith, within)
 
 pub overflow_add-end : goal.overflow_add-end
 overflow_add-end c =
     let within : c.args.value * c.args.sizes.block + c.args.sizes.block ≤ length c.args.words.now =
-      inside_words c.args.sizes c.requires.0 (length c.args.words.now) c.args.value c.requires.1 in
+    inside_words c.args.sizes c.requires.0 (length c.args.words.now) c.args.value c.requires.1 in
     omega (arith, within)
 
 pub offset_bounds-words-at : goal.offset_bounds-words-at
 offset_bounds-words-at c =
     let within : c.args.value * c.args.sizes.block + c.args.sizes.block ≤ length c.args.words.now =
-      inside_words c.args.sizes c.requires.0 (length c.args.words.now) c.args.value c.requires.1 in
+    inside_words c.args.sizes c.requires.0 (length c.args.words.now) c.args.value c.requires.1 in
     omega (arith, within)
 
 pub slice_bounds-result-end : goal.slice_bounds-result-end
 slice_bounds-result-end c =
     let within : c.args.value * c.args.sizes.block + c.args.sizes.block ≤ length c.args.words.now =
-      inside_words c.args.sizes c.requires.0 (length c.args.words.now) c.args.value c.requires.1 in
+    inside_words c.args.sizes c.requires.0 (length c.args.words.now) c.args.value c.requires.1 in
     omega (arith, within)
 
 pub returns : goal.returns

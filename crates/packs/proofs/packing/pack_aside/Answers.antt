@@ -22,15 +22,15 @@ slice_bounds-list-end c =
 pub slice_bounds-give_list-end : goal.slice_bounds-give_list-end
 slice_bounds-give_list-end c =
     let made : take c.pack_into-length.result c.pack_into-length.new.out ≡ packed c.args.rows.now =
-      let p = c.pack_into-length in
-      front p.new.out _ (drop p.result (replicate 4096 0)) p.result p.ensures.0 p.ensures.1 in
+    let p = c.pack_into-length in
+    front p.new.out _ (drop p.result (replicate 4096 0)) p.result p.ensures.0 p.ensures.1 in
     c.pack_into-length.ensures.0 ∙ sym (ap length (made))
 
 pub returns : goal.returns
 returns c =
     let made : take c.pack_into-length.result c.pack_into-length.new.out ≡ packed c.args.rows.now =
-      let p = c.pack_into-length in
-      front p.new.out _ (drop p.result (replicate 4096 0)) p.result p.ensures.0 p.ensures.1 in
+    let p = c.pack_into-length in
+    front p.new.out _ (drop p.result (replicate 4096 0)) p.result p.ensures.0 p.ensures.1 in
     let start = c in
     rw (in_order start.args.rows.now start.args.out.now start.requires.0 start.requires.1)
     (rw (made) at c.give_list.ensures)

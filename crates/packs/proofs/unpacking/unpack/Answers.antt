@@ -30,18 +30,18 @@ slice_bounds-unpack_into-end-2 c =
 pub unpack_into-requires : goal.unpack_into-requires
 unpack_into-requires c =
     let can : let a = c.args in CanUnpack a.list.now a.length a.out.now =
-      let a = c.args in
-      passes a.list.now a.length a.out.now c.if-length-gt-ROW_LIMIT.false c.if-out-length.false
-      (sym c.in-Whole.is ∙ c.check.ensures) in
+    let a = c.args in
+    passes a.list.now a.length a.out.now c.if-length-gt-ROW_LIMIT.false c.if-out-length.false
+    (sym c.in-Whole.is ∙ c.check.ensures) in
     let a = c.args in
     has_rows a.list.now a.length a.out.now (can)
 
 pub returns : goal.returns
 returns c =
     let can : let a = c.args in CanUnpack a.list.now a.length a.out.now =
-      let a = c.args in
-      passes a.list.now a.length a.out.now c.if-length-gt-ROW_LIMIT.false c.if-out-length.false
-      (sym c.in-Whole.is ∙ c.check.ensures) in
+    let a = c.args in
+    passes a.list.now a.length a.out.now c.if-length-gt-ROW_LIMIT.false c.if-out-length.false
+    (sym c.in-Whole.is ∙ c.check.ensures) in
     let a = c.args in
     let rows = c.unpack_into in
     done a.list.now a.length a.out.now (can) rows.new.out rows.ensures
