@@ -4,7 +4,7 @@
 
 A definition is reached if its name, or a constructor of it, stands in a root's text or in that of a definition which is
 reached. A variable of the same name counts as its use: the number may come out too large by that, and never too small. A
-field `x .f` reaches nothing more, since the signature that gives x names its type.
+field `x.f` reaches nothing more, since the signature that gives x names its type.
 The lines of a definition are the `infix` right above it, its signature and its clauses. The line of a
 `module _ (..) where` counts once, if a definition below it is reached. Comments, imports and blank lines do not count.
 Structs and enums are read in src/: they are listed, and are no lines of specs/.
@@ -32,7 +32,7 @@ SECTION = "## How to check this yourself in an hour"
 
 HEAD = re.compile(r"((?:(?:abbrev|unfoldable|pub|mut|data|record)\s+)*)(\S+)\s+(\S+)")
 USE = re.compile(r"^(?:ghost )?use\s+([^\s{]+)\.\{([^}]*)\};?$", re.M)
-OURS = re.compile(r"Rattle·(\w+?)(?:·specs)?\.(?:specs\.)?(\S+)$")
+OURS = re.compile(r"Rattle\.(?!std\.)(\w+)\.specs\.(\S+)$")
 
 
 class Unreadable(Exception):
@@ -44,15 +44,15 @@ def text_of(path):
 
 
 def uses(code, scope):
-    """What the words of a text stand for; comments, strings, `name =` and `name :` are no uses, nor is the field `.name`."""
+    """What the words of a text stand for; comments, strings, `name =` and `name :` are no uses, nor is the field in `x.name`."""
     code = re.sub(r'(?m)(?:^|(?<=\s))--\s.*$|"[^"]*"|[^\s(){};,]+(?=\s[=:]\s)', " ", code)
-    words = {word.rstrip(".") for word in re.split(r"[\s(){};,λ⌜⌝]+", code)}
+    words = {word.split(".")[0] for word in re.split(r"[\s(){};,λ]+", code)}
     return {scope[word] for word in words if word in scope}
 
 
 def spellings(name):
-    """How a name stands in a text: `_when_` as `when`."""
-    return {part for part in name.split("_") if part} if "_" in (name[0], name[-1]) else {name}
+    """How a name stands in a text: `◌when◌` as `when`."""
+    return {part for part in name.split("◌") if part} if "◌" in name else {name}
 
 
 class Definition:
@@ -129,14 +129,14 @@ class Tree:
         if re.search(r"^(ghost )?use Rattle", USE.sub("", text), re.M):
             raise Unreadable("%s: cannot read an import" % place)
         for module, names in USE.findall(text):
-            for item in re.findall(r"[^\s,][^,]*", names) if module.startswith("Rattle·") else []:
+            for item in re.findall(r"[^\s,][^,]*", names) if OURS.match(module) else []:
                 name, _, other = item.strip().partition(" as ")
                 scope.update({word: self.find(place, module, name) for word in spellings(other or name)})
         return scope
 
     def find(self, place, module, name):
         """The definition that an imported name leads to."""
-        crate, path = OURS.match(module.replace(".the-variants", "")).groups()
+        crate, path = OURS.match(module.replace(".TheVariants", "")).groups()
         if path.startswith("declared."):
             return self.types.setdefault((crate, path), Definition(path.replace("declared", crate), "type"))
         file = self.files.get("crates/%s/specs/%s.antt" % (crate, path.replace(".", "/")))
@@ -148,7 +148,8 @@ class Tree:
         """The theorem files' definitions, and what the contracts of the calls use. Just these calls are given out by lib.rt."""
         found = {definition for place in theorems for definition in self.files[place].definitions}
         for crate, names in calls.items():
-            given = re.findall(r"^pub use \w+::(\w+);", text_of(self.root / "crates" / crate / "src/lib.rt"), re.M)
+            lines = re.findall(r"^pub use \w+::(?:(\w+)|\{([^}]*)\});", text_of(self.root / "crates" / crate / "src/lib.rt"), re.M)
+            given = re.findall(r"\w+", " ".join(one or group for one, group in lines))
             if sorted(given) != sorted(names):
                 raise Unreadable("%s gives out %s and not %s" % (crate, ", ".join(given), ", ".join(names)))
             found |= {definition for name in names for definition in self.contract(crate, name)}
@@ -219,12 +220,12 @@ def report(tree, show):
 # The self-test: a made-up tree without a fault, in which 14 lines are reached; and edits, with what must then be found.
 MADE_UP = {
     "crates/low/specs/Low.antt": """-- The file's first comment, which does not count.
-use Rattle·low·specs.specs.declared.Kind.{Kind}
-use Rattle·low·specs.specs.declared.Kind.the-variants.{Odd}
-infix 10 _when_
+use Rattle.low.specs.declared.Kind.{Kind}
+use Rattle.low.specs.declared.Kind.TheVariants.{Odd}
+infix 10 ◌when◌
 -- a reason
 pub data Check : Type 0 where
-  _when_ : Kind → ℕ → Check
+  ◌when◌ : Kind → ℕ → Check
 -- ---- a heading, which does not count
 
 module _ (kind : Kind) where
@@ -233,25 +234,25 @@ module _ (kind : Kind) where
   first zero = Odd when zero
   first (suc number) =
       kind when number""",
-    "crates/low/specs/Inner.antt": """use Rattle·low·specs.specs.Low.{\n    Check,\n    _when_,\n}
+    "crates/low/specs/Inner.antt": """use Rattle.low.specs.Low.{\n    Check,\n    ◌when◌,\n}
 abbrev pub hidden : Check → ℕ
 hidden (kind when number) = number""",
-    "crates/top/specs/Calls.antt": """use Rattle·low.specs.Inner.{hidden}
+    "crates/top/specs/Calls.antt": """use Rattle.low.specs.Inner.{hidden}
 pub record Said : Type 0 where
   pub hidden : ℕ
 -- what the call says; its `hidden` is a field
 unfoldable pub outcome : ℕ → Said
 outcome number = record { hidden = number }""",
-    "crates/top/specs/Theorem.antt": """use Rattle·low.specs.Low.{first as begin}
+    "crates/top/specs/Theorem.antt": """use Rattle.low.specs.Low.{first as begin}
 abbrev pub Theorem : Type 0
 Theorem = (kind : Kind) → begin kind 1 ≡ begin kind 1""",
-    "crates/top/src/lib.rt": "pub use calling::call;\n",
-    "crates/top/src/calling.rt": """ghost use Rattle·top·specs.specs.Calls.{outcome};
-ghost use Rattle·low.specs.Inner.{hidden};
-fn helper() ensures { λ r. ⌜ hidden r ⌝ }
+    "crates/top/src/lib.rt": "pub use calling::{call};\n",
+    "crates/top/src/calling.rt": """ghost use Rattle.top.specs.Calls.{outcome};
+ghost use Rattle.low.specs.Inner.{hidden};
+fn helper() ensures { hidden result }
 pub fn call(number: u32) -> u32
-    ensures { λ r. ⌜ r
-        ≡ outcome number .hidden ⌝ }
+    ensures { result
+        ≡ (outcome number).hidden }
 {""",
     "docs/PROMISES.md": "Just 14 lines of definitions are reached from\nthe calls, the history theorem and its corollaries.\n",
     "README.md": SECTION + "\n\nRead `crates/top/specs` and `low/specs/Low.antt`.\n\n## Use\n",
@@ -263,11 +264,12 @@ WRONG = [
     ("crates/low/specs/Low.antt", "module", "abbrev pub idle : ℕ\n\nmodule", "Low.antt: not reached, so an inner matter: idle"),
     ("crates/top/specs/Calls.antt", "= number", "= hidden number", "Inner.antt: reached, so no inner matter: hidden"),
     ("crates/top/specs/Calls.antt", "outcome number", "others number", "cannot read: others number"),
-    ("crates/top/specs/Theorem.antt", "{first as", "{last as", "found no Rattle·low.specs.Low.last"),
+    ("crates/top/specs/Theorem.antt", "{first as", "{last as", "found no Rattle.low.specs.Low.last"),
     ("crates/top/src/calling.rt", "pub fn call", "pub fn recall", "found no contract of top::call"),
     ("crates/top/src/calling.rt", "outcome number", "number", "found no contract of top::call"),
     ("crates/top/src/calling.rt", "Calls.{outcome}", "Calls.outcome", "cannot read an import"),
-    ("crates/top/src/lib.rt", "call;", "call;\npub use calling::more;", "gives out call, more and not call"),
+    ("crates/top/src/lib.rt", "{call};", "{call, more};", "gives out call, more and not call"),
+    ("crates/top/src/lib.rt", "{call};", "call;\npub use calling::more;", "gives out call, more and not call"),
 ]
 
 

@@ -11,7 +11,7 @@ fn main() {
     println!("cargo:rerun-if-changed={}", library.display());
     if !library.is_file() {
         stop(&format!(
-            "there is no static library at {}; the command `rt staticlib upbit`, given in the repository's root, \
+            "there is no static library at {}; the command `bash tools/staticlib.sh`, given in the repository's root, \
              makes target/staticlib/libupbit.a there, and UPBIT_LIB may name another file",
             library.display()
         ));

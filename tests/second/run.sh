@@ -5,6 +5,7 @@
 set -eu
 cd "$(dirname "$0")/../.."
 
+bash tools/programs.sh
 cargo=(--release --offline --quiet --manifest-path tests/second/Cargo.toml --target-dir target/second)
 cargo build "${cargo[@]}"
 cargo test "${cargo[@]}"

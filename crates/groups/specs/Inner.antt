@@ -1,5 +1,5 @@
 -- Definitions that the contracts of inner functions alone cite.
-use Rattle.std.specs.Prelude.{List, [], ◌∷◌, ℕ, zero, suc, ◌+◌, ◌*◌, ◌-◌, ◌/◌, ◌%◌, ◌<◌, get_or}
+use Rattle.std.specs.Prelude.{List, [], ◌∷◌, ℕ, zero, suc, ◌+◌, ◌*◌, ◌/◌, ◌%◌, ◌<◌, get_or}
 
 -- each of some groups has 31 bits
 abbrev pub Groups : List ℕ → Type 0

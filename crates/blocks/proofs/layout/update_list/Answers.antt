@@ -7,8 +7,3 @@ use Rattle.blocks.proofs.layout.update_list.Goals as goal
 
 pub returns : goal.returns
 returns c = let start = c in update_slice start.args.sizes start.args.block.now _ _ refl refl start.requires.2
-
--- LOST part-result-start : tie.Need-slice-bounds-result-start
--- part-result-start c = search rules
--- LOST part-result-end : tie.Need-slice-bounds-result-end
--- part-result-end c = search rules

@@ -7,8 +7,3 @@ use Rattle.blocks.proofs.layout.value_unused.Goals as goal
 
 pub returns : goal.returns
 returns c = let start = c in value_unused_slice start.args.sizes start.args.block.now _ _ refl refl
-
--- LOST part-result-start : tie.Need-slice-bounds-result-start
--- part-result-start c = search rules
--- LOST part-result-end : tie.Need-slice-bounds-result-end
--- part-result-end c = search rules

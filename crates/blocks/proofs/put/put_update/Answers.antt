@@ -37,10 +37,3 @@ returns c =
     ∙ update_writes a.sizes a.count (take a.sizes.update_room a.room.now) a.block.now start.requires.1
     (length-take-le a.sizes.update_room a.room.now (omega arith) ∙ start.requires.0.update_room_is)
     ∙ rw start.requires.0.update_room_is refl
-
--- LOST part-copy-start : tie.Need-slice-bounds-copy-start
--- part-copy-start c = search rules
--- LOST part-copy-end : tie.Need-slice-bounds-copy-end
--- part-copy-end c =
---     let start = c.before.before.before.before in
---     omega (arith, length-set start.args.block.now 1 start.args.count)

@@ -35,10 +35,3 @@ returns c =
     stored a.block.now 0 a.count 2 a.room.now (value_room a.sizes) (omega arith) (omega arith) (omega arith) copy.new.out copy.ensures
     ∙ value_writes a.sizes a.count (take (value_room a.sizes) a.room.now) a.block.now start.requires.1
     (length-take-le (value_room a.sizes) a.room.now (omega arith))
-
--- LOST part-copy-start : tie.Need-slice-bounds-copy-start
--- part-copy-start c = search rules
--- LOST part-copy-end : tie.Need-slice-bounds-copy-end
--- part-copy-end c =
---     let start = c.before.before.before in
---     omega (arith, length-set start.args.block.now 0 start.args.count)

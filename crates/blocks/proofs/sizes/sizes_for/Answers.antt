@@ -28,6 +28,3 @@ returns c =
         fences_are = refl;
       },
     )
-
--- LOST div-fences : tie.Need-nonzero-div-fences
--- div-fences c = search rules

@@ -13,12 +13,3 @@ returns c =
       part_copied a.list.now a.out.now a.from a.words a.at start.requires.0 start.requires.1
           copy.new.out copy.ensures,
     )
-
--- LOST part-copy-start : tie.Need-slice-bounds-copy-start
--- part-copy-start c = search rules
--- LOST part-copy-end : tie.Need-slice-bounds-copy-end
--- part-copy-end c = search rules
--- LOST part-copy-start-2 : tie.Need-slice-bounds-copy-start-2
--- part-copy-start-2 c = search rules
--- LOST part-copy-end-2 : tie.Need-slice-bounds-copy-end-2
--- part-copy-end-2 c = search rules

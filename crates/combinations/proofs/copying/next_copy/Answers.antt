@@ -86,8 +86,3 @@ returns c =
     c.if-from-ne0.false c.if-other-ne0.false
     (rw (← c.group_in.ensures) (sym c.goes_on.ensures ∙ c.if-goes_on.false))
     c.reach_of-reach.result (rw (all-behind list a.from.next) at c.reach_of-reach.ensures)
-
--- LOST part-reach-of-start : tie.Need-slice-bounds-reach-of-start
--- part-reach-of-start c = omega (arith, a_word c.before.before.before.before)
--- LOST part-reach-of-end : tie.Need-slice-bounds-reach-of-end
--- part-reach-of-end c = search rules

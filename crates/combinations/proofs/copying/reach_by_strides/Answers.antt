@@ -57,8 +57,3 @@ loop-words-preserved c =
 
 pub returns : goal.returns
 returns c = c.loop-words.invariant
-
--- LOST part-covered-by-start : tie.Need-slice-bounds-covered-by-start invariant-loop decreases-loop
--- part-covered-by-start c = omega arith
--- LOST part-covered-by-end : tie.Need-slice-bounds-covered-by-end invariant-loop decreases-loop
--- part-covered-by-end c = omega (arith, c.loop-test.true)

@@ -1,11 +1,8 @@
 -- `all_digits` stops at the first byte that is no digit: the bytes after those passed decide.
-use mathlib.Core.Path.{◌≡◌, refl, ◌∙◌, sym}
-use Prim.Native.Nat.{◌-◌, ◌≤◌}
+use mathlib.Core.Path.{◌≡◌, refl, ◌∙◌}
 use native.Mathlib.Omega.{arith}
-use lib.ListN.{length, drop}
+use lib.ListN.{length}
 use lib.Seq.{drop-length}
-use borrow.Author.Rules.{rules}
-use Rattle.digits.specs.Digits.{are_digits}
 use Rattle.digits.proofs.Digits.{digit_passes, digit_stops}
 use Rattle.digits.proofs.reading.all_digits.Goals as goal
 

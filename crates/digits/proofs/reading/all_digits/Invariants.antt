@@ -1,12 +1,8 @@
 -- `all_digits` stops at the first byte that is no digit: the bytes after those passed decide.
-use mathlib.Core.Path.{◌≡◌, refl, ◌∙◌, sym}
+use mathlib.Core.Path.{◌≡◌}
 use Prim.Native.Nat.{◌-◌, ◌≤◌}
-use native.Mathlib.Omega.{arith}
 use lib.ListN.{length, drop}
-use lib.Seq.{drop-length}
-use borrow.Author.Rules.{rules}
 use Rattle.digits.specs.Digits.{are_digits}
-use Rattle.digits.proofs.Digits.{digit_passes, digit_stops}
 use Rattle.digits.proofs.reading.all_digits.Given as goal
 
 abbrev pub invariant-loop-i : goal.invariant-loop-i

@@ -1,6 +1,5 @@
 -- `digit_of`: one law for each range of bytes.
 use Rattle.digits.proofs.Digits.{below_digits, decimal_digit, between_digits, letter_digit, above_digits}
-use borrow.Author.Rules.{rules}
 use Rattle.digits.proofs.reading.digit_of.Goals as goal
 
 pub returns-then-byte-lt48 : goal.returns-then-byte-lt48

@@ -1,11 +1,10 @@
 -- `number_in` takes in one digit a turn: what is read so far stands before the digits that are left.
 use mathlib.Core.Path.{◌≡◌, refl, ◌∙◌}
-use Prim.Native.Nat.{◌+◌, ◌-◌, ◌*◌, ◌≤◌, ◌<◌, ◌^◌}
+use Prim.Native.Nat.{◌+◌, ◌*◌}
 use native.Mathlib.Omega.{arith}
-use lib.ListN.{length, get_or, drop}
+use lib.ListN.{length, get_or}
 use lib.Seq.{drop-length}
-use borrow.Author.Rules.{rules}
-use Rattle.digits.specs.Digits.{digit_value, number_from, number_in}
+use Rattle.digits.specs.Digits.{digit_value}
 use Rattle.digits.proofs.Digits.{number_small, number_grows, digit_joins}
 use Rattle.digits.proofs.reading.number_in.Goals as goal
 

@@ -1,12 +1,8 @@
 -- `number_in` takes in one digit a turn: what is read so far stands before the digits that are left.
-use mathlib.Core.Path.{◌≡◌, refl, ◌∙◌}
-use Prim.Native.Nat.{◌+◌, ◌-◌, ◌*◌, ◌≤◌, ◌<◌, ◌^◌}
-use native.Mathlib.Omega.{arith}
-use lib.ListN.{length, get_or, drop}
-use lib.Seq.{drop-length}
-use borrow.Author.Rules.{rules}
-use Rattle.digits.specs.Digits.{digit_value, number_from, number_in}
-use Rattle.digits.proofs.Digits.{number_small, number_grows, digit_joins}
+use mathlib.Core.Path.{◌≡◌}
+use Prim.Native.Nat.{◌-◌, ◌≤◌, ◌<◌, ◌^◌}
+use lib.ListN.{length, drop}
+use Rattle.digits.specs.Digits.{number_from, number_in}
 use Rattle.digits.proofs.reading.number_in.Given as goal
 
 abbrev pub invariant-loop-i : goal.invariant-loop-i

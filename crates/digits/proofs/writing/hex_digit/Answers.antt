@@ -1,7 +1,6 @@
 -- `hex_digit` picks the range of its number.
 use mathlib.Core.Path.{refl}
 use native.Mathlib.Omega.{arith}
-use borrow.Author.Rules.{rules}
 use borrow.Author.Tests.{lt-ltb, le-ltb}
 use Rattle.digits.proofs.writing.hex_digit.Goals as goal
 

@@ -1,12 +1,9 @@
 -- `put_digits` writes the highest digit that is left in each turn: what is left to write gives the whole text.
-use mathlib.Core.Path.{◌≡◌, refl, ◌∙◌}
-use Prim.Native.Nat.{◌+◌, ◌-◌, ◌*◌, ◌/◌, ◌^◌, ◌≤◌}
-use native.Mathlib.Nat.{mod-lt}
-use native.Mathlib.Omega.{arith}
-use lib.ListN.{length, length-set}
+use mathlib.Core.Path.{◌≡◌}
+use Prim.Native.Nat.{◌+◌, ◌≤◌}
+use lib.ListN.{length}
 use lib.Seq.{sets}
 use Rattle.digits.specs.Digits.{hex_digits}
-use Rattle.digits.proofs.Digits.{digit_put}
 use Rattle.digits.proofs.writing.put_digits.Given as goal
 
 abbrev pub invariant-loop-left : goal.invariant-loop-left

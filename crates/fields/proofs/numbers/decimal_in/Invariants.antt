@@ -1,12 +1,9 @@
 -- `decimal_in`: what is read so far and what is left spell what the field spells.
-use mathlib.Core.Path.{◌≡◌, sym, ◌∙◌}
+use mathlib.Core.Path.{◌≡◌}
 use Prim.Native.Nat.{◌≤◌, ◌-◌}
-use native.Mathlib.Omega.{arith}
 use lib.ListN.{length, drop}
-use borrow.Author.Rules.{rules}
 use Rattle.fields.specs.declared.numbers.Number.TheVariants.{Is}
 use Rattle.fields.specs.Numbers.{decimal_from, decimal_in}
-use Rattle.fields.proofs.Spelling.{no_digits, from_zero, all_read, read_none, read_more}
 use Rattle.fields.proofs.numbers.decimal_in.Given as goal
 
 abbrev pub invariant-loop-i : goal.invariant-loop-i

@@ -1,5 +1,4 @@
 -- `with_digit`: one law for each way out.
-use borrow.Author.Rules.{rules}
 use Rattle.fields.proofs.Spelling.{no_digit, too_large, one_digit_more}
 use Rattle.fields.proofs.numbers.with_digit.Goals as goal
 

@@ -1,7 +1,5 @@
 -- `word_in`: 8 digits or no word.
 use mathlib.Core.Path.{sym, ◌∙◌}
-use borrow.Author.Rules.{rules}
-use borrow.Author.Tests.{not-true, not-false}
 use Rattle.fields.proofs.Spelling.{no_word, no_digit_word, a_word}
 use Rattle.fields.proofs.numbers.word_in.Goals as goal
 

@@ -1,6 +1,5 @@
 -- `find` stays between its two places.
 use Prim.Native.Nat.{◌≤◌, ◌-◌}
-use borrow.Author.Rules.{rules}
 use Rattle.fields.proofs.places.find.Given as goal
 
 abbrev pub invariant-loop-i : goal.invariant-loop-i

@@ -2,7 +2,6 @@
 use Prim.Native.Nat.{◌/◌, ◌^◌}
 use native.Mathlib.Omega.{arith}
 use lib.Bits.{and_mask, mask_lt}
-use borrow.Author.Rules.{rules}
 use Rattle.groups.proofs.eights.eight_bits.Goals as goal
 
 pub overflow_cast-result : goal.overflow_cast-result

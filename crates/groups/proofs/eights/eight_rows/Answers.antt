@@ -1,6 +1,5 @@
 -- `eight_rows` meets its contract, by the computed test of its arithmetic. Assumes nothing.
 use mathlib.Core.Path.{◌∙◌}
-use borrow.Author.Rules.{rules}
 use Rattle.groups.proofs.eights.Computed.{gathers}
 use Rattle.groups.proofs.eights.eight_rows.Goals as goal
 

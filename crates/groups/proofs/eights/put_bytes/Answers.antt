@@ -5,7 +5,6 @@ use native.Mathlib.Numerals.{add-one, add-two, add-three, add-four, add_five, ad
 use native.Mathlib.Omega.{arith}
 use lib.ListN.{length-set}
 use lib.Pow.{shr-shr}
-use borrow.Author.Rules.{rules}
 use Rattle.groups.proofs.eights.put_bytes.Goals as goal
 
 pub bounds-out-at-2 : goal.bounds-out-at-2

@@ -3,7 +3,6 @@ use mathlib.Core.Path.{◌∙◌, ap}
 use mathlib.Core.List.{List}
 use Prim.Native.Nat.{ℕ}
 use lib.Seq.{sets}
-use borrow.Author.Rules.{rules}
 use Rattle.groups.proofs.eights.put_eight.Goals as goal
 
 pub returns : goal.returns

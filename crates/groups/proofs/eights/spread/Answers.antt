@@ -1,7 +1,6 @@
 -- `spread` meets its contract, by the computed test of its arithmetic. Assumes nothing.
 use native.Mathlib.Omega.{arith}
 use lib.Bits.{and_le_r}
-use borrow.Author.Rules.{rules}
 use Rattle.groups.proofs.eights.Computed.{spreads}
 use Rattle.groups.proofs.eights.spread.Goals as goal
 

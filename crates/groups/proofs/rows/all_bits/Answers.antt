@@ -1,12 +1,9 @@
 -- `all_bits`: the rows are bits where the largest row so far is one and the rows still to come are bits. Assumes nothing.
 use mathlib.Core.Path.{◌≡◌, refl, ◌∙◌, sym}
-use mathlib.Core.Bool.{◌&&◌}
 use mathlib.Core.Logic.{⊎_elim}
-use Prim.Native.Nat.{max, ◌-◌, ◌≤◌}
+use Prim.Native.Nat.{max}
 use native.Mathlib.Omega.{arith}
-use lib.Dec.{ltb}
-use lib.ListN.{length, get_or, drop}
-use Rattle.groups.specs.Rows.{are_bits}
+use lib.ListN.{get_or}
 use Rattle.groups.proofs.Bits.{largest_more, largest_all}
 use Rattle.groups.proofs.rows.all_bits.Goals as goal
 

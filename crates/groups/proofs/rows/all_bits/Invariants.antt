@@ -1,13 +1,10 @@
 -- `all_bits`: the rows are bits where the largest row so far is one and the rows still to come are bits. Assumes nothing.
-use mathlib.Core.Path.{◌≡◌, refl, ◌∙◌, sym}
+use mathlib.Core.Path.{◌≡◌}
 use mathlib.Core.Bool.{◌&&◌}
-use mathlib.Core.Logic.{⊎_elim}
-use Prim.Native.Nat.{max, ◌-◌, ◌≤◌}
-use native.Mathlib.Omega.{arith}
+use Prim.Native.Nat.{◌-◌, ◌≤◌}
 use lib.Dec.{ltb}
-use lib.ListN.{length, get_or, drop}
+use lib.ListN.{length, drop}
 use Rattle.groups.specs.Rows.{are_bits}
-use Rattle.groups.proofs.Bits.{largest_more, largest_all}
 use Rattle.groups.proofs.rows.all_bits.Given as goal
 
 abbrev pub invariant-loop-i : goal.invariant-loop-i

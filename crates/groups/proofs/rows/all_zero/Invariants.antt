@@ -1,12 +1,10 @@
 -- `all_zero`: the words are 0 where the bits gathered so far are and the words still to come are 0. Assumes nothing.
-use mathlib.Core.Path.{◌≡◌, refl, ◌∙◌, sym}
+use mathlib.Core.Path.{◌≡◌}
 use mathlib.Core.Bool.{◌&&◌}
 use Prim.Native.Nat.{◌-◌, ◌≤◌}
-use native.Mathlib.Omega.{arith}
 use lib.Dec.{eqb}
 use lib.ListN.{length, drop}
 use Rattle.groups.specs.Rows.{all_zero}
-use Rattle.groups.proofs.Zeros.{gathered-more, gathered_all}
 use Rattle.groups.proofs.rows.all_zero.Given as goal
 
 abbrev pub invariant-loop-i : goal.invariant-loop-i

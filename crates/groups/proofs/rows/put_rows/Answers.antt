@@ -3,7 +3,6 @@ use mathlib.Core.Path.{◌∙◌, sym}
 use native.Mathlib.Omega.{arith}
 use lib.ListN.{length}
 use lib.Seq.{take_all}
-use borrow.Author.Rules.{rules}
 use Rattle.groups.specs.Rows.{bits_of}
 use Rattle.groups.proofs.Group.{length-bits_of}
 use Rattle.groups.proofs.rows.put_rows.Goals as goal

@@ -1,14 +1,9 @@
 -- `put_short`: after i turns the first i bits of the group stand in front of what `out` had. Assumes nothing.
-use mathlib.Core.Path.{◌≡◌, refl, ◌∙◌}
-use mathlib.Core.List.{◌++◌, append-nil}
+use mathlib.Core.Path.{◌≡◌}
+use mathlib.Core.List.{◌++◌}
 use Prim.Native.Nat.{◌-◌, ◌≤◌}
-use native.Mathlib.Omega.{arith}
-use lib.ListN.{length, take, drop, length-set}
-use lib.Seq.{drop-length}
-use borrow.Author.Rules.{rules}
+use lib.ListN.{length, take, drop}
 use Rattle.groups.specs.Rows.{bits_of}
-use Rattle.groups.proofs.Table.{mask_at}
-use Rattle.groups.proofs.Group.{put_bit}
 use Rattle.groups.proofs.rows.put_short.Given as goal
 
 abbrev pub invariant-loop-i : goal.invariant-loop-i

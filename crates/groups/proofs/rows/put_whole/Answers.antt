@@ -1,5 +1,4 @@
 -- `put_whole`: three times eight rows and eight that overlap them are the 31 of the group. Assumes nothing.
-use borrow.Author.Rules.{rules}
 use Rattle.groups.proofs.Parts.{put_eights}
 use Rattle.groups.proofs.rows.put_whole.Goals as goal
 

@@ -1,6 +1,5 @@
 -- `row_of`: the bit under the mask of row i is row i. Assumes nothing.
 use Prim.Native.Nat.{◌-◌}
-use borrow.Author.Rules.{rules}
 use Rattle.groups.proofs.rows.row_of.Goals as goal
 
 pub returns : goal.returns

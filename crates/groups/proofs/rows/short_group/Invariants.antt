@@ -1,10 +1,7 @@
 -- `short_group`: after i turns the first i rows are gathered, the first of them the highest. Assumes nothing.
 use Prim.Native.Nat.{◌-◌}
-use native.Mathlib.Omega.{arith}
 use lib.ListN.{length}
-use lib.Pow.{pow_mono}
-use borrow.Author.Rules.{rules}
-use Rattle.groups.proofs.Gather.{Gathered, gather_none, gather_more, gather_all}
+use Rattle.groups.proofs.Gather.{Gathered}
 use Rattle.groups.proofs.rows.short_group.Given as goal
 
 abbrev pub invariant-loop-i : goal.invariant-loop-i

@@ -1,5 +1,4 @@
 -- `whole_group`: three times eight rows and the last seven of eight are the group. Assumes nothing.
-use borrow.Author.Rules.{rules}
 use Rattle.groups.proofs.Parts.{group_of_eights}
 use Rattle.groups.proofs.rows.whole_group.Goals as goal
 

@@ -19,8 +19,3 @@ loop-i-preserved c =
 
 pub returns : goal.returns
 returns c = c.loop-i.invariant
-
--- LOST part-all-mixed-start : tie.Need-slice-bounds-all-mixed-start invariant-loop decreases-loop
--- part-all-mixed-start c = omega arith
--- LOST part-all-mixed-end : tie.Need-slice-bounds-all-mixed-end invariant-loop decreases-loop
--- part-all-mixed-end c = omega arith

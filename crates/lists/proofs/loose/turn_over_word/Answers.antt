@@ -45,8 +45,3 @@ returns-else-at-groups c =
       ap (◌+◌ start.args.at) spanned.span_of.ensures,
       none-turned start.args.groups.now start.args.at start.args.word start.requires.0 start.requires.1 (no_ones) c.if-at-groups.false,
     )
-
--- LOST part-turn-over-each-start : tie.Need-slice-bounds-turn-over-each-start
--- part-turn-over-each-start c = search rules
--- LOST part-turn-over-each-end : tie.Need-slice-bounds-turn-over-each-end
--- part-turn-over-each-end c = search rules

@@ -101,6 +101,3 @@ returns c =
     let finished = c.finish-count-2.ensures in
     rw (finished.0, finished.1)
     (packs start.args.groups start.args.row blank (few-one_row start.args.groups start.args.row) (zeros-stored) refl)
-
--- LOST array-read-next-step : tie.Need-array-read-next-step
--- array-read-next-step c = search rules

@@ -117,12 +117,3 @@ returns c =
     rw (finished.0, finished.1, stored.0, stored.1)
     (ends a.total a.groups.now a.out.now start.requires.0 start.requires.1 start.requires.2 start.requires.3
     (all-passed) c.step_zeros-step.ensures)
-
--- LOST part-put-part-start : tie.Need-slice-bounds-put-part-start invariant-loop decreases-loop
--- part-put-part-start c = omega arith
--- LOST part-put-part-end : tie.Need-slice-bounds-put-part-end invariant-loop decreases-loop
--- part-put-part-end c = omega arith
--- LOST part-put-each-start : tie.Need-slice-bounds-put-each-start invariant-loop decreases-loop
--- part-put-each-start c = omega arith
--- LOST part-put-each-end : tie.Need-slice-bounds-put-each-end invariant-loop decreases-loop
--- part-put-each-end c = omega arith

@@ -67,8 +67,3 @@ returns c =
     let l = c.loop-at in
     let e = c.finish.ensures in
     rw (e.0, e.1) (finishes l.invariant start.requires.2 c.loop-at-test.false)
-
--- LOST part-group-of-start : tie.Need-slice-bounds-group-of-start invariant-loop decreases-loop
--- part-group-of-start c = omega arith
--- LOST part-group-of-end : tie.Need-slice-bounds-group-of-end invariant-loop decreases-loop
--- part-group-of-end c = omega arith

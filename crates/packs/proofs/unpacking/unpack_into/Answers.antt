@@ -31,8 +31,3 @@ shape_of-out c = c.loop-i.invariant.same
 
 pub returns : goal.returns
 returns c = ends c.loop-i.invariant (omega arith) c.requires.1
-
--- LOST part-put-word-start : tie.Need-slice-bounds-put-word-start invariant-loop decreases-loop
--- part-put-word-start c = omega (arith, c.end_of_lem.ensures)
--- LOST part-put-word-end : tie.Need-slice-bounds-put-word-end invariant-loop decreases-loop
--- part-put-word-end c = omega (arith, c.end_of_lem.ensures)

@@ -1,6 +1,5 @@
 -- `give_list` meets its contract, an exit at a time. Assumes nothing.
 use mathlib.Core.Path.{refl}
-use borrow.Author.Rules.{rules}
 use Rattle.answers.proofs.Given.{too_long, fits}
 use Rattle.words.proofs.give.give_list.Goals as goal
 

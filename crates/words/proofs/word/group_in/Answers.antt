@@ -1,6 +1,5 @@
 -- `group_in` meets its contract, an arm at a time by what the word is read as. Assumes nothing.
 use mathlib.Core.Path.{refl}
-use borrow.Author.Rules.{rules}
 use Rattle.words.proofs.word.Reading.{reads_literal, reads_fill, told_fill, told_literal}
 use Rattle.words.proofs.word.group_in.Goals as goal
 

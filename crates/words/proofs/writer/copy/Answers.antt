@@ -1,9 +1,8 @@
 -- `copy` writes a list over the front of the output: after i turns the first i words are the list's, and the others are as they were.
-use mathlib.Core.Path.{◌≡◌, refl}
-use Prim.Native.Nat.{◌-◌, ◌≤◌}
+use mathlib.Core.Path.{refl}
 use native.Mathlib.Omega.{arith}
-use lib.ListN.{length, length-set}
-use lib.Seq.{paste, paste-zero}
+use lib.ListN.{length-set}
+use lib.Seq.{paste-zero}
 use Rattle.groups.proofs.Sets.{copies, copied}
 use Rattle.words.proofs.writer.copy.Goals as goal
 

@@ -1,10 +1,8 @@
 -- `copy` writes a list over the front of the output: after i turns the first i words are the list's, and the others are as they were.
-use mathlib.Core.Path.{◌≡◌, refl}
+use mathlib.Core.Path.{◌≡◌}
 use Prim.Native.Nat.{◌-◌, ◌≤◌}
-use native.Mathlib.Omega.{arith}
-use lib.ListN.{length, length-set}
-use lib.Seq.{paste, paste-zero}
-use Rattle.groups.proofs.Sets.{copies, copied}
+use lib.ListN.{length}
+use lib.Seq.{paste}
 use Rattle.words.proofs.writer.copy.Given as goal
 
 abbrev pub invariant-loop-i : goal.invariant-loop-i

@@ -3,7 +3,6 @@ use mathlib.Core.Path.{refl}
 use native.Mathlib.Omega.{arith}
 use native.Mathlib.Nat.{add-zero}
 use Rattle.words.proofs.Runs.{last-run}
-use borrow.Author.Rules.{rules}
 use Rattle.words.proofs.writer.finish.Goals as goal
 
 pub returns-then-pending-eq0 : goal.returns-then-pending-eq0

@@ -1,7 +1,6 @@
 -- `next_step` takes in a group as often as it comes: a uniform one as `step_fill` does, any other, which comes once, as `step_literal` does.
 use mathlib.Core.Path.{◌≡◌}
 use native.Mathlib.Omega.{arith}
-use borrow.Author.Rules.{rules}
 use Rattle.words.proofs.writer.next_step.Goals as goal
 
 pub returns-then-group-eq0 : goal.returns-then-group-eq0

@@ -3,7 +3,6 @@ use mathlib.Core.Path.{◌≡◌, refl}
 use native.Mathlib.Omega.{arith}
 use native.Mathlib.Numerals.{add-one}
 use lib.ListN.{length-set}
-use borrow.Author.Rules.{rules}
 use Rattle.words.proofs.writer.store.Goals as goal
 
 pub returns-then-words-eq1 : goal.returns-then-words-eq1
