@@ -1,4 +1,4 @@
-// The proved index: the functions of include/upbit.h, linked from the library that `rt staticlib upbit` makes.
+// The proved index: the functions of include/upbit.h, linked from the library that `tools/staticlib.sh` makes.
 #include "calls.hpp"
 
 const Calls proved_calls = {

@@ -16,7 +16,7 @@
  * and lent again. A call may be made from any thread. It takes up to 24 KB of stack, upbit_audit 40 KB and
  * upbit_dump 130 KB.
  *
- * Link with libupbit.a (`rt staticlib upbit`, for x86-64); of other libraries it needs C's memcpy and memset alone.
+ * Link with libupbit.a (`tools/staticlib.sh`, for x86-64); of other libraries it needs C's memcpy and memset alone.
  */
 #ifndef UPBIT_H
 #define UPBIT_H

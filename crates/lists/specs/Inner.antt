@@ -1,5 +1,5 @@
 -- Definitions that the contracts of inner functions alone cite.
-use Rattle.std.specs.Prelude.{◌≡◌, Bool, true, List, ◌∷◌, ◌++◌, map, ℕ, ◌+◌, ◌/◌, ◌%◌, ◌<◌, ◌-◌, ◌^◌, ◌≤◌, length, get_or, take, drop, replicate}
+use Rattle.std.specs.Prelude.{◌≡◌, Bool, true, List, ◌∷◌, ◌++◌, map, ℕ, ◌/◌, ◌%◌, ◌<◌, ◌-◌, ◌^◌, ◌≤◌, length, get_or, take, drop, replicate}
 use Rattle.groups.specs.Rows.{all_zero}
 use Rattle.words.specs.Words.{run_of, span, decode, no_fill, well_formed, encode}
 use Rattle.lists.specs.Combine.{Operation, exclusive, combined}

@@ -1,6 +1,6 @@
 -- `all_mixed` meets its contract. The loop's invariant is `Unmarked`: where no mark is gathered, the words read are mixed. Assumes nothing.
-use Rattle.std.proofs.Common.{◌-◌, ◌/◌, length, arith, rules, eqb-true}
-use Rattle.list_check.proofs.check.Marks.{Unmarked, none_marked, next_mark, all_unmarked}
+use Rattle.std.proofs.Common.{◌/◌, arith, eqb-true}
+use Rattle.list_check.proofs.check.Marks.{none_marked, next_mark, all_unmarked}
 use Rattle.list_check.proofs.check.all_mixed.Goals as goal
 
 pub loop-i-init : goal.loop-i-init

@@ -1,6 +1,6 @@
 -- `all_mixed` meets its contract. The loop's invariant is `Unmarked`: where no mark is gathered, the words read are mixed. Assumes nothing.
-use Rattle.std.proofs.Common.{◌-◌, ◌/◌, length, arith, rules, eqb-true}
-use Rattle.list_check.proofs.check.Marks.{Unmarked, none_marked, next_mark, all_unmarked}
+use Rattle.std.proofs.Common.{◌-◌, length}
+use Rattle.list_check.proofs.check.Marks.{Unmarked}
 use Rattle.list_check.proofs.check.all_mixed.Given as goal
 
 abbrev pub invariant-loop-i : goal.invariant-loop-i

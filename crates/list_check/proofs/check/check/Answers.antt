@@ -1,6 +1,5 @@
 -- `check` meets its contract, an exit at a time: the number of words, the form and the number of groups, the last group. Assumes nothing.
-use Rattle.std.proofs.Common.{◌≡◌, Bool, cond, sym, ap, ◌∙◌, arith, rules}
-use borrow.Author.Tests.{not-true, not-false}
+use Rattle.std.proofs.Common.{◌≡◌, Bool, cond, sym, ap, ◌∙◌, arith}
 use Rattle.list_check.specs.Inner.{check_of}
 use Rattle.list_check.specs.declared.check.Checked.TheVariants.{Whole, Bad}
 use Rattle.list_check.proofs.check.Ends.{too_long, ends}

@@ -1,5 +1,5 @@
 -- `excess_of` meets its contract, by what its tests pick. Assumes nothing.
-use Rattle.std.proofs.Common.{Bool, cond, ap, ◌∙◌, arith, rules}
+use Rattle.std.proofs.Common.{Bool, cond, ap, ◌∙◌, arith}
 use Rattle.list_check.proofs.check.Excess.{picked}
 use Rattle.list_check.proofs.check.excess_of.Goals as goal
 

@@ -1,5 +1,5 @@
 -- `keeps_form` meets its contract, by what the pass over the words has shown. Assumes nothing.
-use Rattle.std.proofs.Common.{arith, rules}
+use Rattle.std.proofs.Common.{arith}
 use Rattle.list_check.proofs.check.Pass.{not_kept, kept}
 use Rattle.list_check.proofs.check.keeps_form.Goals as goal
 

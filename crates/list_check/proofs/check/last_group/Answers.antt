@@ -1,5 +1,4 @@
 -- `last_group` meets its contract: without a word, 0 is the group of the literal 0. Assumes nothing.
-use Rattle.std.proofs.Common.{rules}
 use Rattle.list_check.proofs.check.Ends.{no_word}
 use Rattle.list_check.proofs.check.last_group.Goals as goal
 

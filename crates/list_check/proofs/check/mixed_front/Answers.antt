@@ -1,7 +1,5 @@
 -- `mixed_front` meets its contract: a stride that is mixed adds nothing. The loop's invariant is `PassedTo`. Assumes nothing.
-use Rattle.std.proofs.Common.{◌-◌, length, arith, rules}
-use borrow.Author.Tests.{not-false}
-use Rattle.list_check.specs.Inner.{PassedTo}
+use Rattle.std.proofs.Common.{arith}
 use Rattle.list_check.proofs.check.Pass.{begin, mixed_part}
 use Rattle.list_check.proofs.check.mixed_front.Goals as goal
 

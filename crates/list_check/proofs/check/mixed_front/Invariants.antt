@@ -1,8 +1,6 @@
 -- `mixed_front` meets its contract: a stride that is mixed adds nothing. The loop's invariant is `PassedTo`. Assumes nothing.
-use Rattle.std.proofs.Common.{◌-◌, length, arith, rules}
-use borrow.Author.Tests.{not-false}
+use Rattle.std.proofs.Common.{◌-◌, length}
 use Rattle.list_check.specs.Inner.{PassedTo}
-use Rattle.list_check.proofs.check.Pass.{begin, mixed_part}
 use Rattle.list_check.proofs.check.mixed_front.Given as goal
 
 abbrev pub invariant-loop-i : goal.invariant-loop-i

@@ -1,5 +1,5 @@
 -- `ones_in` meets its contract, an arm at a time by what the word is read as. Assumes nothing.
-use Rattle.std.proofs.Common.{◌≤◌, arith, rules}
+use Rattle.std.proofs.Common.{◌≤◌, arith}
 use Rattle.words.proofs.word.Reading.{told_fill, told_literal}
 use Rattle.list_check.proofs.check.Counting.{literal_ones, fill_ones, fill_fits}
 use Rattle.list_check.proofs.check.ones_in.Goals as goal

@@ -1,6 +1,6 @@
 -- `ones_of` meets its contract. The loop's invariant is `Counted`: the ones of the words read. Assumes nothing.
-use Rattle.std.proofs.Common.{◌-◌, length, arith}
-use Rattle.list_check.proofs.check.Counting.{Counted, count_none, span_fits, sum_fits, count-more, count_all}
+use Rattle.std.proofs.Common.{arith}
+use Rattle.list_check.proofs.check.Counting.{count_none, span_fits, sum_fits, count-more, count_all}
 use Rattle.list_check.proofs.check.ones_of.Goals as goal
 
 pub loop-i-init : goal.loop-i-init

@@ -1,6 +1,5 @@
 -- `pass_from` meets its contract. The loop's invariant is `PassedTo`: what the bits and the sum say of the words read. Assumes nothing.
-use Rattle.std.proofs.Common.{◌≡◌, ◌+◌, ◌-◌, ◌%◌, ◌≤◌, length, get_or, arith, rules}
-use Rattle.list_check.specs.Inner.{PassedTo}
+use Rattle.std.proofs.Common.{◌≡◌, ◌+◌, ◌-◌, ◌%◌, get_or, arith}
 use Rattle.list_check.proofs.check.Pass.{one-before, next_word, at_end}
 use Rattle.list_check.proofs.check.pass_from.Goals as goal
 

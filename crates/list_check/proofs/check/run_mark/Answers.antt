@@ -1,5 +1,5 @@
 -- `run_mark` meets its contract. Assumes nothing.
-use Rattle.std.proofs.Common.{arith, rules}
+use Rattle.std.proofs.Common.{arith}
 use Rattle.list_check.proofs.check.Marks.{mark_mixed}
 use Rattle.list_check.proofs.check.run_mark.Goals as goal
 

@@ -1,5 +1,5 @@
 -- `tail_clear` meets its contract: a mask of the low bits is a remainder. Assumes nothing.
-use Rattle.std.proofs.Common.{◌≡◌, ℕ, ◌*◌, ◌%◌, ◌^◌, ◌<◌, refl, ◌∙◌, one-mul, arith, pow_pos, shl_exact, rules}
+use Rattle.std.proofs.Common.{◌≡◌, ℕ, ◌*◌, ◌%◌, ◌^◌, ◌<◌, refl, ◌∙◌, one-mul, arith, pow_pos, shl_exact}
 use lib.Bits.{and_mask}
 use Rattle.list_check.proofs.check.tail_clear.Goals as goal
 

@@ -1,5 +1,4 @@
 -- `word_before` meets its contract: a place after the first is one more than the place read. Assumes nothing.
-use Rattle.std.proofs.Common.{rules}
 use Rattle.list_check.proofs.check.Pass.{one-before}
 use Rattle.list_check.proofs.check.word_before.Goals as goal
 

@@ -2,7 +2,7 @@
 use mathlib.Core.Path.{◌∙◌, sym}
 use native.Mathlib.Omega.{arith}
 use lib.Count.{trailing_le}
-use Rattle.lists.proofs.clear.Ends.{ZerosFrom, begins, ends, last_fits, passes, decides}
+use Rattle.lists.proofs.clear.Ends.{begins, ends, last_fits, passes, decides}
 use Rattle.lists.proofs.clear.clear_from.Goals as goal
 
 pub loop-i-init : goal.loop-i-init

@@ -1,8 +1,5 @@
 -- `clear_from` meets its contract. The loop's invariant is `ZerosFrom`: the words that are passed are all zero. The measure is how many words are left.
-use mathlib.Core.Path.{◌∙◌, sym}
-use native.Mathlib.Omega.{arith}
-use lib.Count.{trailing_le}
-use Rattle.lists.proofs.clear.Ends.{ZerosFrom, begins, ends, last_fits, passes, decides}
+use Rattle.lists.proofs.clear.Ends.{ZerosFrom}
 use Rattle.lists.proofs.clear.clear_from.Given as goal
 
 abbrev pub invariant-loop-i : goal.invariant-loop-i

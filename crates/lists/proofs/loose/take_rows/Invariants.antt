@@ -1,11 +1,10 @@
 -- `take_rows` meets its contract. The loop's invariant: the rows in front of place i are taken, and no row is shared where none is so far and
 -- none is still to come.
 use Prim.Native.Nat.{◌-◌}
-use native.Mathlib.Omega.{arith}
 use lib.ListN.{length}
 use Rattle.lists.specs.Combine.{combined}
 use Rattle.lists.specs.Inner.{either}
-use Rattle.lists.proofs.loose.Loops.{Replacing, begins, unread, replaces, replaced, Sharing, shares_begin, shares_more, shares_all, taken_length, taken_at}
+use Rattle.lists.proofs.loose.Loops.{Replacing, Sharing}
 use Rattle.lists.proofs.loose.take_rows.Given as goal
 
 abbrev pub invariant-loop-i : goal.invariant-loop-i

@@ -1,9 +1,6 @@
 -- `turn_over_each` meets its contract. The loop's invariant: the groups in front of place i are turned over, the others are as they were.
-use Prim.Native.Nat.{◌-◌}
 use native.Mathlib.Omega.{arith}
-use lib.ListN.{length, replicate}
-use Rattle.lists.specs.Combine.{exclusive, combined}
-use Rattle.lists.proofs.loose.Loops.{Replacing, begins, unread, replaces, replaced, turned-length, turned_at}
+use Rattle.lists.proofs.loose.Loops.{begins, unread, replaces, replaced, turned-length, turned_at}
 use Rattle.lists.proofs.loose.turn_over_each.Goals as goal
 
 pub loop-i-init : goal.loop-i-init

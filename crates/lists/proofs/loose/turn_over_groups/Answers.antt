@@ -1,9 +1,7 @@
 -- `turn_over_groups` meets its contract. The loop's invariant is `Turning`: the groups of the words read are turned over. The measure is how many
 -- words are left.
-use Prim.Native.Nat.{◌-◌}
 use native.Mathlib.Omega.{arith}
-use lib.ListN.{length}
-use Rattle.lists.proofs.loose.Turning.{Turning, begins, now_long, now_small, word_fits, next_word, ends}
+use Rattle.lists.proofs.loose.Turning.{begins, now_long, now_small, word_fits, next_word, ends}
 use Rattle.lists.proofs.loose.turn_over_groups.Goals as goal
 
 pub loop-i-init : goal.loop-i-init

@@ -1,7 +1,6 @@
 -- `turn_over_word` meets its contract: a fill of ones is a part of the groups, and any other word is one group or turns nothing over.
 use mathlib.Core.Path.{◌∙◌, ap, sym}
 use Prim.Native.Nat.{◌+◌, ◌<◌}
-use borrow.Author.Rules.{rules}
 use borrow.Author.Tests.{leb-false}
 use Rattle.lists.proofs.loose.Word.{group_small, part_small, part_turned, one-turned, none-turned}
 use Rattle.lists.proofs.loose.turn_over_word.Goals as goal

@@ -1,11 +1,9 @@
 -- `one_row` packs one row: the group of the row ends the zeros before it, which are pending, and the zeros after it, if there are any, come last.
 use mathlib.Core.Path.{refl, sym}
 use mathlib.Core.List.{List, [], ◌∷◌, append-nil}
-use Prim.Native.Nat.{ℕ, ◌-◌, ◌/◌, ◌%◌, ◌≤◌}
+use Prim.Native.Nat.{ℕ, ◌-◌, ◌/◌, ◌%◌}
 use native.Mathlib.Omega.{arith}
-use lib.ListN.{length, length-replicate}
-use borrow.Author.Rules.{rules}
-use Rattle.words.specs.Words.{encode}
+use lib.ListN.{length-replicate}
 use Rattle.words.specs.Inner.{uniform}
 use Rattle.groups.proofs.Table.{mask_at}
 use Rattle.words.proofs.Writing.{Writing, step_fits, step_on, last_fits}

@@ -1,12 +1,10 @@
 -- `pack` refuses in the order of document 01's numbers, and writes where the list is sure to fit; elsewhere `pack_aside` answers.
 use mathlib.Core.Path.{◌∙◌, sym}
 use native.Mathlib.Omega.{arith}
-use borrow.Author.Tests.{not-true, not-false}
 use Rattle.words.specs.Words.{packed}
 use Rattle.words.proofs.Size.{packed-length}
 use Rattle.answers.proofs.Given.{fits}
 use Rattle.packs.proofs.packing.Exits.{bad_value_lem, full, in_order}
-use borrow.Author.Rules.{rules}
 use Rattle.packs.proofs.packing.pack.Goals as goal
 
 pub returns-then-not-all_bits : goal.returns-then-not-all_bits

@@ -2,7 +2,6 @@
 use mathlib.Core.Path.{◌≡◌, ◌∙◌, ap, sym}
 use native.Mathlib.Omega.{arith}
 use lib.ListN.{length, take, drop, replicate, length-append}
-use borrow.Author.Rules.{rules}
 use Rattle.words.specs.Words.{packed}
 use Rattle.groups.proofs.Sets.{front}
 use Rattle.words.proofs.Size.{packed-length}

@@ -2,11 +2,10 @@
 use mathlib.Core.Path.{◌∙◌, ap}
 use Prim.Native.Nat.{◌-◌}
 use native.Mathlib.Omega.{arith}
-use borrow.Author.Rules.{rules}
 use lib.ListN.{length, drop, length-take}
 use lib.Seq.{length-sets}
 use Rattle.groups.proofs.Bits.{are_bits-take, are_bits-drop}
-use Rattle.packs.proofs.packing.Loop.{Packing, starts, turn_fits, turns, finish_fits, finishes}
+use Rattle.packs.proofs.packing.Loop.{starts, turn_fits, turns, finish_fits, finishes}
 use Rattle.packs.proofs.packing.pack_into.Goals as goal
 
 pub loop-at-init : goal.loop-at-init

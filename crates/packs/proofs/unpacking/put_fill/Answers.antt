@@ -1,8 +1,7 @@
 -- `put_fill` meets its contract. The loop's invariant: the first i bytes are the bit. Assumes nothing.
 use mathlib.Core.Path.{◌≡◌, refl, ◌∙◌, sym}
-use Prim.Native.Nat.{◌-◌, ◌≤◌}
 use native.Mathlib.Omega.{arith}
-use lib.ListN.{length, take, replicate, length-set}
+use lib.ListN.{length, length-set}
 use lib.Seq.{take_all}
 use Rattle.packs.proofs.unpacking.WordRows.{one_more}
 use Rattle.packs.proofs.unpacking.put_fill.Goals as goal

@@ -1,10 +1,7 @@
 -- `put_fill` meets its contract. The loop's invariant: the first i bytes are the bit. Assumes nothing.
-use mathlib.Core.Path.{◌≡◌, refl, ◌∙◌, sym}
+use mathlib.Core.Path.{◌≡◌}
 use Prim.Native.Nat.{◌-◌, ◌≤◌}
-use native.Mathlib.Omega.{arith}
-use lib.ListN.{length, take, replicate, length-set}
-use lib.Seq.{take_all}
-use Rattle.packs.proofs.unpacking.WordRows.{one_more}
+use lib.ListN.{length, take, replicate}
 use Rattle.packs.proofs.unpacking.put_fill.Given as goal
 
 abbrev pub invariant-loop-i : goal.invariant-loop-i

@@ -1,7 +1,6 @@
 -- `put_word` meets its contract, an arm at a time by what the word is read as. Assumes nothing.
 use mathlib.Core.Path.{◌∙◌}
 use lib.ListN.{length}
-use borrow.Author.Rules.{rules}
 use Rattle.words.proofs.word.Reading.{reads_literal, told_fill, told_literal}
 use Rattle.packs.proofs.unpacking.WordRows.{literal_rows, fill_rows}
 use Rattle.packs.proofs.unpacking.put_word.Goals as goal

@@ -1,7 +1,6 @@
 -- `unpack` meets its contract, an exit at a time. Assumes nothing.
 use mathlib.Core.Path.{◌∙◌, sym}
 use lib.Seq.{length-take-le}
-use borrow.Author.Rules.{rules}
 use Rattle.packs.proofs.Calls.{CanUnpack}
 use Rattle.packs.proofs.unpacking.Exits.{full, small, bad_list, passes, has_rows, done}
 use Rattle.packs.proofs.unpacking.unpack.Goals as goal

@@ -1,8 +1,6 @@
 -- `unpack_into` meets its contract. The loop's invariant is `Unpacking`: the rows of the words read stand in the output. Assumes nothing.
-use Prim.Native.Nat.{◌-◌}
 use native.Mathlib.Omega.{arith}
-use lib.ListN.{length}
-use Rattle.packs.proofs.unpacking.Loop.{Unpacking, begin, part-fits, next_word, ends}
+use Rattle.packs.proofs.unpacking.Loop.{begin, part-fits, next_word, ends}
 use Rattle.packs.proofs.unpacking.unpack_into.Goals as goal
 
 pub loop-i-init : goal.loop-i-init

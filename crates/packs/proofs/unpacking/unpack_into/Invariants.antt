@@ -1,8 +1,7 @@
 -- `unpack_into` meets its contract. The loop's invariant is `Unpacking`: the rows of the words read stand in the output. Assumes nothing.
 use Prim.Native.Nat.{◌-◌}
-use native.Mathlib.Omega.{arith}
 use lib.ListN.{length}
-use Rattle.packs.proofs.unpacking.Loop.{Unpacking, begin, part-fits, next_word, ends}
+use Rattle.packs.proofs.unpacking.Loop.{Unpacking}
 use Rattle.packs.proofs.unpacking.unpack_into.Given as goal
 
 abbrev pub invariant-loop-i : goal.invariant-loop-i
