@@ -7,19 +7,19 @@ use native.Mathlib.Omega.{arith}
 use lib.ListN.{length}
 use borrow.Author.Tests.{eq-eqb, leb-false}
 use Rattle.groups.specs.Rows.{row_at}
-use Rattle.words.specs.Words.{decode, encode}
+use Rattle.words.specs.Words.{decode}
 use Rattle.lists.specs.OneRow.{turned_over}
 use Rattle.lists.proofs.TurningOver.{row_at-turned_over, row_at-turned_over_other}
-use Rattle.blocks.specs.Sizes.{value_room, update_room, block_size}
+use Rattle.blocks.specs.Sizes.{update_room, block_size}
 use Rattle.blocks.specs.Inner.{Limits}
-use Rattle.blocks.specs.Block.{value_length, value_words, value_list, update_list, current, padded}
+use Rattle.blocks.specs.Block.{value_length, value_words, value_list, update_list, current}
 use Rattle.blocks.specs.Whole.{update_ones, whole_lists}
 use Rattle.block_change.specs.Change.{merged, turned_list, merge_due, flipped}
 use Rattle.blocks.specs.declared.sizes.Sizes.{Sizes}
-use Rattle.blocks.proofs.Blocks.{ValueIs, UpdateIs}
+use Rattle.blocks.proofs.Blocks.{ValueIs}
 use Rattle.blocks.proofs.WholeLists.{whole_parts, length-current}
-use Rattle.block_change.proofs.Merging.{length_merged, value-merged, update_ones-merged, current-merged, whole-merged}
-use Rattle.block_change.proofs.Turning.{Spare, turned_list-fits, length-turned, value-turned, update-turned, current-turned, whole-turned}
+use Rattle.block_change.proofs.Merging.{length_merged, update_ones-merged, current-merged, whole-merged}
+use Rattle.block_change.proofs.Turning.{Spare, turned_list-fits, length-turned, value-turned, current-turned, whole-turned}
 
 -- ---- before the row is turned over
 

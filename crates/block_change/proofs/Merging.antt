@@ -5,14 +5,14 @@ use mathlib.Core.List.{List}
 use Prim.Native.Nat.{ℕ, ◌≤◌}
 use lib.ListN.{length}
 use Rattle.words.specs.Words.{encode, canonical}
-use Rattle.blocks.specs.Sizes.{value_room, update_room, block_size}
+use Rattle.blocks.specs.Sizes.{value_room, block_size}
 use Rattle.blocks.specs.Inner.{Limits}
-use Rattle.blocks.specs.Block.{current, padded, zero_list}
+use Rattle.blocks.specs.Block.{current, padded}
 use Rattle.blocks.specs.Whole.{update_ones, whole_lists}
 use Rattle.block_change.specs.Change.{merged}
 use Rattle.blocks.specs.declared.sizes.Sizes.{Sizes}
-use Rattle.blocks.proofs.Blocks.{ValueIs, UpdateIs}
-use Rattle.blocks.proofs.EmptyUpdates.{length-emptied, value-emptied, update-emptied, ones-emptied, current-emptied, whole-emptied}
+use Rattle.blocks.proofs.Blocks.{ValueIs}
+use Rattle.blocks.proofs.EmptyUpdates.{length-emptied, value-emptied, ones-emptied, current-emptied, whole-emptied}
 use Rattle.blocks.proofs.WholeLists.{current-fits, decode-current, canonical-current}
 
 module _ (sizes : Sizes) (limits : Limits sizes) (block : List ℕ) (whole : whole_lists sizes block ≡ true) where

@@ -2,7 +2,7 @@
 use mathlib.Core.Path.{◌≡◌, refl, ◌∙◌, ap, sym}
 use mathlib.Core.Bool.{Bool, true, false}
 use mathlib.Core.List.{List}
-use Prim.Native.Nat.{ℕ, ◌+◌, ◌-◌, ◌/◌, ◌<◌, ◌≤◌}
+use Prim.Native.Nat.{ℕ, ◌-◌, ◌/◌, ◌<◌, ◌≤◌}
 use native.Mathlib.Omega.{arith}
 use lib.Dec.{eqb}
 use lib.ListN.{length}
@@ -12,7 +12,7 @@ use Rattle.words.specs.Words.{decode, canonical}
 use Rattle.words.proofs.Round.{decode-encode}
 use Rattle.words.proofs.Size.{encode-ones}
 use Rattle.lists.specs.OneRow.{turned_over}
-use Rattle.lists.proofs.TurningOver.{length-turned_over, turned_over-lt, row_at-turned_over, row_at-turned_over_other, ones_in-more, ones_in_less, canonical-turned_over}
+use Rattle.lists.proofs.TurningOver.{length-turned_over, turned_over-lt, row_at-turned_over, ones_in-more, ones_in_less, canonical-turned_over}
 use Rattle.blocks.specs.Sizes.{update_room, block_size}
 use Rattle.blocks.specs.Inner.{Limits}
 use Rattle.blocks.specs.Block.{value_length, value_words, value_list, update_list, current, padded}

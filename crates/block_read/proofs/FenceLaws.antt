@@ -9,7 +9,7 @@ use native.Mathlib.Omega.{arith}
 use lib.ListN.{length, take, drop, length-take}
 use lib.Seq.{take-take}
 use Rattle.words.specs.Words.{span, decode}
-use Rattle.words.proofs.Forms.{run_at, length_split, length_from, length_upto, decode_end}
+use Rattle.words.proofs.Forms.{run_at, length_split, length_upto, decode_end}
 use Rattle.blocks.specs.Block.{value_length, value_words, value_list}
 use Rattle.block_read.specs.Fences.{fence_of, locate_from, fence_at}
 use Rattle.block_read.specs.declared.fence.Fence.{Fence}

@@ -2,11 +2,10 @@
 use mathlib.Core.Path.{◌≡◌, refl, ◌∙◌, ap₂, sym}
 use mathlib.Core.Bool.{Bool, true, false, cond, ◌&&◌}
 use mathlib.Core.List.{List}
-use Prim.Native.Nat.{ℕ, ◌+◌, ◌-◌, ◌/◌, ◌%◌, ◌^◌, ◌<◌, ◌≤◌}
+use Prim.Native.Nat.{ℕ, ◌+◌, ◌-◌, ◌<◌, ◌≤◌}
 use native.Mathlib.Omega.{arith}
 use lib.Dec.{leb, ltb}
 use lib.ListN.{length, get_or, take, drop}
-use Rattle.groups.specs.Rows.{row_at}
 use Rattle.words.specs.Words.{run_of, group_in, decode}
 use Rattle.words.proofs.Round.{decode-groups}
 use Rattle.lists.specs.Combine.{exclusive, on_group}

@@ -1,12 +1,12 @@
 -- What a block reads as: its four parts, and what stands in it after one of its lists is written. Assumes nothing.
-use mathlib.Core.Path.{◌≡◌, refl, ◌∙◌, ap, sym}
+use mathlib.Core.Path.{◌≡◌, refl, ap}
 use mathlib.Core.List.{List, ◌∷◌, ◌++◌}
 use Prim.Native.Nat.{ℕ, suc, ◌+◌, ◌≤◌}
 use native.Mathlib.Omega.{arith}
 use lib.ListN.{length, take, drop, length-append}
 use lib.Seq.{length-take-le, take_at, drop_at, take_all}
 use Rattle.blocks.specs.Sizes.{value_room, update_room, block_size}
-use Rattle.blocks.specs.Block.{part, write, value_length, update_length, value_words, update_words, value_list, update_list}
+use Rattle.blocks.specs.Block.{part, value_length, update_length, value_words, update_words, value_list, update_list}
 use Rattle.blocks.specs.Block.{padded, with_update, block_of}
 use Rattle.blocks.specs.Inner.{with_value}
 use Rattle.blocks.specs.declared.sizes.Sizes.{Sizes}

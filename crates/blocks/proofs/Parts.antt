@@ -3,12 +3,12 @@ use mathlib.Core.Path.{◌≡◌, refl, ◌∙◌, ap, sym}
 use mathlib.Core.Logic.{◌⊎◌, ⊎_elim}
 use mathlib.Core.List.{List, [], ◌∷◌, ◌++◌, append_assoc}
 use Prim.Native.Nat.{ℕ, zero, suc, ◌+◌, ◌-◌, ◌<◌, ◌≤◌}
-use native.Mathlib.Nat.{add-zero, add_assoc, sub-zero, zero-sub, suc-sub-suc}
+use native.Mathlib.Nat.{add_assoc, sub-zero, zero-sub, suc-sub-suc}
 use native.Mathlib.Numerals.{add-one}
 use native.Mathlib.Omega.{arith}
 use lib.ListN.{length, get_or, set, take, drop, length-append, length-drop}
-use lib.Seq.{length-take-le, take-nil, take_at, drop_at, take-append-le, drop-append-le, get_or-take, get_or-drop}
-use lib.Seq.{take-add, take-take, drop-drop, set_split, sets, sets-eq}
+use lib.Seq.{length-take-le, take-nil, take_at, drop_at, get_or-take, get_or-drop}
+use lib.Seq.{take-take, drop-drop, set_split}
 use borrow.Rule.Slice.PartMut.{put_same}
 use Rattle.groups.proofs.Sets.{drop_further}
 use Rattle.blocks.specs.Sizes.{value_room, update_room}

@@ -1,6 +1,5 @@
 -- The loop over the values that keeps the rows of those behind it in an array of groups: its begin and its turn. Assumes nothing.
 use mathlib.Core.Path.{◌≡◌, ap}
-use mathlib.Core.Bool.{Bool}
 use mathlib.Core.List.{List, ◌++◌}
 use Prim.Native.Nat.{ℕ, suc, ◌≤◌}
 use native.Mathlib.Omega.{arith}
@@ -9,7 +8,7 @@ use lib.Seq.{take_at}
 use Rattle.groups.specs.Inner.{Groups}
 use Rattle.groups.proofs.Groups.{groups-drop, groups-append, groups-zeros}
 use Rattle.lists.specs.Combine.{combined}
-use Rattle.lists.specs.Inner.{either, apart}
+use Rattle.lists.specs.Inner.{either}
 use Rattle.lists.proofs.Combining.{combined-lt}
 use Rattle.lists.proofs.Operations.{either_bits}
 use Rattle.blocks.specs.Inner.{Limits}

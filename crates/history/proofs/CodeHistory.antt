@@ -2,7 +2,7 @@
 use mathlib.Core.Path.{◌≡◌, refl, ◌∙◌, ap, sym}
 use mathlib.Core.List.{List, [], ◌∷◌}
 use Prim.Native.Nat.{ℕ}
-use Rattle.answers.specs.Numbers.{Paper, paper}
+use Rattle.answers.specs.Numbers.{Paper}
 use Rattle.answers.specs.Outcome.{Outcome, Gives}
 use Rattle.memory.specs.Outcomes.{After, Leaves}
 use Rattle.index.specs.Calls.{load_after, query_outcome, insert_after, update_after, delete_after, merge_after, dump_outcome, audit_outcome}

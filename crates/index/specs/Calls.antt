@@ -1,5 +1,5 @@
 -- Document 01, "What the calls do": each call on an index, for every header and memory.
-use Rattle.std.specs.Prelude.{Bool, not, cond, ◌&&◌, List, [], ◌∷◌, ◌++◌, ℕ, zero, suc, ◌+◌, leb, ltb, eqb, length}
+use Rattle.std.specs.Prelude.{not, cond, ◌&&◌, List, [], ◌∷◌, ◌++◌, ℕ, zero, suc, leb, ltb, eqb, length}
 use Rattle.answers.specs.Outcome.{Check, ◌when◌, Outcome, outcome}
 use Rattle.answers.specs.declared.Refusal.TheVariants.{BadHeader, Small, BadValue, NoRow, Full, Damaged, Gone, OutSmall}
 use Rattle.words.specs.Words.{encode}

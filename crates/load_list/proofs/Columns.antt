@@ -14,15 +14,14 @@ use Rattle.words.proofs.Round.{Groups, decode-encode, encode_form}
 use Rattle.groups.proofs.RowsBack.{row_at-groups_of}
 use Rattle.words.proofs.Size.{encode-length}
 use Rattle.groups.proofs.Tail.{row_at-clear_from}
-use Rattle.blocks.specs.Sizes.{value_room, update_room, block_size}
+use Rattle.blocks.specs.Sizes.{value_room, block_size}
 use Rattle.blocks.specs.Inner.{Limits}
-use Rattle.blocks.specs.Block.{value_words, current, padded, zero_list}
-use Rattle.blocks.specs.Whole.{update_ones, whole_lists}
+use Rattle.blocks.specs.Block.{value_words, current, padded}
+use Rattle.blocks.specs.Whole.{whole_lists}
 use Rattle.load_list.specs.Column.{rows_with, groups_with, list_for, loaded}
 use Rattle.load_list.specs.Inner.{packed_list, packed_block}
 use Rattle.blocks.specs.declared.sizes.Sizes.{Sizes}
-use Rattle.blocks.proofs.Blocks.{ValueIs, UpdateIs}
-use Rattle.blocks.proofs.EmptyUpdates.{length-emptied, value-emptied, update-emptied, ones-emptied, current-emptied, whole-emptied}
+use Rattle.blocks.proofs.EmptyUpdates.{length-emptied, current-emptied, whole-emptied}
 use Rattle.blocks.proofs.Rooms.{length-padded}
 use Rattle.load_list.proofs.listing.Loop.{list-fits}
 use Rattle.load_list.proofs.listing.Rows.{length-rows_with, get_or-rows_with, rows_with_bits, cut-padded, get_or-padded}

@@ -1,11 +1,10 @@
 -- Checks in their order: what is asked of an entry, and whatever else reads checks so, take the first that applies; and what an entry that is ready says. Assumes nothing.
 use mathlib.Core.Path.{◌≡◌, refl, sym, ap, ◌∙◌}
-use mathlib.Core.Bool.{true, false, not, and-eq-true_iff}
+use mathlib.Core.Bool.{true, false, and-eq-true_iff}
 use mathlib.Core.List.{List, [], ◌∷◌, ◌++◌}
 use Prim.Native.Nat.{ℕ, ◌*◌}
 use native.Mathlib.Omega.{arith}
 use lib.Dec.{leb}
-use lib.ListN.{length}
 use borrow.Author.Tests.{leb-true, not-false}
 use Rattle.answers.specs.Numbers.{number_of}
 use Rattle.answers.specs.Outcome.{Check, ◌when◌, Outcome, outcome}
@@ -18,7 +17,6 @@ use Rattle.memory.specs.Entry.{bad_header, small}
 use Rattle.memory.specs.Inner.{Planned, decided, asked_all, entered_index, entered}
 use Rattle.memory.specs.Outcomes.{After, change}
 use Rattle.memory.specs.declared.header.Header.{Header}
-use Rattle.memory.specs.declared.entry.Entry.{Entry}
 use Rattle.memory.specs.declared.entry.Entry.TheVariants.{Ready, Stop}
 
 -- ---- an entry

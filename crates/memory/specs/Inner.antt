@@ -4,13 +4,13 @@ use Rattle.std.specs.Prelude.{◌≡◌, true, false, not, cond, List, [], ◌�
 use Rattle.answers.specs.Outcome.{Check, ◌when◌}
 use Rattle.answers.specs.declared.Answer.TheVariants.{Done, Refused}
 use Rattle.answers.specs.declared.Refusal.{Refusal}
-use Rattle.answers.specs.declared.Refusal.TheVariants.{BadHeader, BadValue, Full}
+use Rattle.answers.specs.declared.Refusal.TheVariants.{BadValue, Full}
 use Rattle.blocks.specs.Sizes.{block_size, fence_count}
 use Rattle.blocks.specs.Inner.{Limits}
 use Rattle.blocks.specs.declared.sizes.Sizes.{Sizes}
 use Rattle.block_read.specs.Fences.{fence_of, fence_at}
 use Rattle.block_read.specs.declared.fence.Fence.{Fence}
-use Rattle.memory.specs.Memory.{limits, within_limits, sizes_of}
+use Rattle.memory.specs.Memory.{within_limits, sizes_of}
 use Rattle.memory.specs.Entry.{bad_header, small, bad_value, missing, full, valid_column, header_for}
 use Rattle.memory.specs.Reading.{is_damaged, is_deleted, is_free}
 use Rattle.memory.specs.declared.header.Header.{Header}

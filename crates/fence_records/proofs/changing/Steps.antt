@@ -1,6 +1,6 @@
 -- A merge and a flip with the fences after them: what making them anew asks, and what is left. Assumes nothing.
-use mathlib.Core.Path.{◌≡◌, refl, ap, ◌∙◌}
-use mathlib.Core.Bool.{Bool, true, false, cond}
+use mathlib.Core.Path.{◌≡◌, refl}
+use mathlib.Core.Bool.{Bool, true, false}
 use mathlib.Core.List.{List}
 use Prim.Native.Nat.{ℕ, ◌<◌, ◌≤◌}
 use lib.ListN.{length}
@@ -9,7 +9,7 @@ use Rattle.blocks.specs.Block.{value_length}
 use Rattle.blocks.specs.declared.sizes.Sizes.{Sizes}
 use Rattle.block_read.specs.declared.fence.Fence.{Fence}
 use Rattle.memory.specs.Inner.{Fenced}
-use Rattle.memory.specs.Memory.{Memory, memory_of, block_at}
+use Rattle.memory.specs.Memory.{memory_of, block_at}
 use Rattle.change_value.specs.Change.{whole, merges_in, merged_words, flipped_words, renewed, merged_in, flipped_in}
 use Rattle.change_value.proofs.Changing.{whole-fits, merged-whole, flipped-whole}
 

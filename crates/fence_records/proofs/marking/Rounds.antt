@@ -1,10 +1,9 @@
 -- One round of Dump's loops: what the next fence and the next value ask, and what is marked so far. Assumes nothing.
 use mathlib.Core.Path.{◌≡◌, refl, sym, ap, ◌∙◌}
-use mathlib.Core.Bool.{Bool, true, false, not}
+use mathlib.Core.Bool.{Bool, true, false}
 use mathlib.Core.List.{List}
 use Prim.Native.Nat.{ℕ, ◌+◌, ◌*◌, ◌<◌, ◌≤◌, ◌^◌}
 use native.Mathlib.Omega.{arith}
-use lib.Dec.{T}
 use lib.ListN.{length, get_or}
 use Rattle.groups.specs.Rows.{row_limit, groups_for}
 use Rattle.blocks.specs.Sizes.{block_size, fences_for}
@@ -81,10 +80,9 @@ module _ {header : Header} {sizes : Sizes} (words : List ℕ) (fences : List Fen
 
           pub fence_seen : fine ≡ true → FencesSeen header memory value rows (j + 1) left
           fence_seen holds =
-              let holds-here = holds in
               record {
-                hold = next ∙ holds-here;
-                marked = next_fence_marked header memory value rows sizes is.planned fence j found now seen.marked left (marks.1 holds-here);
+                hold = next ∙ holds;
+                marked = next_fence_marked header memory value rows sizes is.planned fence j found now seen.marked left (marks.1 holds);
               }
 
           pub fence_damaged : fine ≡ false
@@ -116,10 +114,9 @@ module _ {header : Header} {sizes : Sizes} (words : List ℕ) (fences : List Fen
 
         pub value_seen : fine ≡ true → ValuesSeen header memory rows (value + 1) left
         value_seen holds =
-            let holds-here = holds in
             record {
-              hold = next-value ∙ holds-here;
-              marked = next-value_marked header memory rows now value seen.marked left (marks.1 holds-here);
+              hold = next-value ∙ holds;
+              marked = next-value_marked header memory rows now value seen.marked left (marks.1 holds);
             }
 
         pub value_damaged : fine ≡ false

@@ -1,5 +1,5 @@
 -- One round of reading a row: the fence that is asked, and what the value's read adds. Assumes nothing.
-use mathlib.Core.Path.{◌≡◌, refl, ap, ◌∙◌}
+use mathlib.Core.Path.{◌≡◌, refl, ◌∙◌}
 use mathlib.Core.List.{List}
 use Prim.Native.Nat.{ℕ, ◌+◌, ◌*◌, ◌-◌, ◌/◌, ◌%◌, ◌<◌, ◌≤◌, ◌^◌}
 use native.Mathlib.Nat.{div-le_self}
@@ -10,7 +10,7 @@ use Rattle.blocks.specs.Inner.{Limits}
 use Rattle.block_read.specs.Read.{read_group}
 use Rattle.memory.specs.Inner.{Planned}
 use Rattle.memory.specs.Fences.{no_fence}
-use Rattle.memory.specs.Memory.{Memory, memory_of, sizes_of, block_at}
+use Rattle.memory.specs.Memory.{Memory, memory_of, block_at}
 use Rattle.memory.specs.Reading.{fence_for, read_in, row_step, read_row, row_of}
 use Rattle.memory.specs.declared.header.Header.{Header}
 use Rattle.block_read.specs.declared.fence.Fence.{Fence}

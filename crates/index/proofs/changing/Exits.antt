@@ -2,7 +2,7 @@
 use mathlib.Core.Path.{◌≡◌, refl, sym, ap, ◌∙◌}
 use mathlib.Core.Bool.{Bool, true, false, not, cond, ◌&&◌}
 use mathlib.Core.List.{List, [], ◌∷◌}
-use Prim.Native.Nat.{ℕ, ◌<◌, ◌≤◌}
+use Prim.Native.Nat.{ℕ, ◌<◌}
 use native.Mathlib.Omega.{arith}
 use lib.Dec.{eqb}
 use lib.ListN.{length}
@@ -17,12 +17,12 @@ use Rattle.block_change.specs.Change.{flipped}
 use Rattle.memory.specs.Entry.{bad_value, missing, full, grown}
 use Rattle.memory.specs.Inner.{Planned, Fenced, refused_by, done_with}
 use Rattle.memory.specs.Memory.{Memory, memory_of, sizes_of, block_at}
-use Rattle.memory.specs.Outcomes.{After, made, change, Leaves}
+use Rattle.memory.specs.Outcomes.{After, made, Leaves}
 use Rattle.memory.specs.Reading.{row_of, is_damaged, is_deleted, is_free}
 use Rattle.memory.specs.declared.entry.Entry.TheVariants.{Ready, Stop}
 use Rattle.memory.specs.declared.header.Header.{Header}
 use Rattle.memory.specs.declared.header.Changed.{Changed}
-use Rattle.memory.proofs.Deciding.{Enters, passes_enters, refused_change, change_refuses, stop_refused, ready_goes_on, refused_changes, decided_changes}
+use Rattle.memory.proofs.Deciding.{Enters, passes_enters, change_refuses, stop_refused, ready_goes_on, refused_changes, decided_changes}
 use Rattle.memory.proofs.Places.{numbers, fenced}
 use Rattle.memory.proofs.RowLaws.{row-value}
 use Rattle.change_value.specs.Change.{whole, merges_in, flipped_words, merged_in, flipped_in}
@@ -30,7 +30,6 @@ use Rattle.change_value.specs.Inner.{entered_whole}
 use Rattle.change_value.proofs.Changing.{Puts, whole_other, merges_other, flipped_puts}
 use Rattle.index.specs.Calls.{merge_after, insert_checks, insert_after, old_value, delete_checks, delete_after, update_checks, update_after}
 use Rattle.index.specs.Inner.{flips_in, insert_decision, delete_decision, moves_in, update_decision}
-use Rattle.index.specs.declared.deciding.Flipping.{Flipping}
 use Rattle.index.specs.declared.deciding.Flipping.TheVariants.{Flips, Kept}
 use Rattle.index.specs.declared.deciding.Moving.{Moving}
 use Rattle.index.specs.declared.deciding.Moving.TheVariants.{Moves, Same, Left}

@@ -1,10 +1,10 @@
 -- The exits of the decisions: each is the one that the checks, in their order, call for. Assumes nothing.
 use mathlib.Core.Path.{◌≡◌, refl, sym, ap, ◌∙◌}
-use mathlib.Core.Bool.{Bool, true, false, not, cond, ◌&&◌, and-false}
+use mathlib.Core.Bool.{Bool, true, false, not, cond, ◌&&◌}
 use mathlib.Core.List.{List, [], ◌∷◌}
 use Prim.Native.Nat.{ℕ, ◌+◌, ◌*◌, ◌<◌, ◌≤◌}
 use native.Mathlib.Omega.{arith}
-use lib.Dec.{T, eqb}
+use lib.Dec.{eqb}
 use lib.ListN.{length}
 use borrow.Author.Tests.{leb-false, eqb-false}
 use Rattle.answers.specs.Outcome.{Check, ◌when◌}
@@ -19,7 +19,7 @@ use Rattle.block_change.specs.Change.{merge_due}
 use Rattle.block_change.specs.Inner.{flip_for}
 use Rattle.block_change.specs.declared.change.Flip.TheVariants.{Merging, Faulty}
 use Rattle.memory.specs.Entry.{bad_value, missing, full}
-use Rattle.memory.specs.Inner.{Planned, Fenced, decided, entered_insert, entered_row, entered_update, legibility_of, holder_of, vacancy_of}
+use Rattle.memory.specs.Inner.{Planned, decided, entered_insert, entered_row, entered_update, legibility_of, holder_of, vacancy_of}
 use Rattle.memory.specs.Memory.{Memory, memory_of, sizes_of, block_at}
 use Rattle.memory.specs.Reading.{row_of, is_damaged, is_deleted, is_free}
 use Rattle.memory.specs.declared.entry.Entry.TheVariants.{Ready, Stop}

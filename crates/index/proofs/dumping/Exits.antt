@@ -4,7 +4,7 @@ use mathlib.Core.Bool.{Bool, true, false, not}
 use mathlib.Core.List.{List, [], ◌∷◌}
 use Prim.Native.Nat.{ℕ, ◌≤◌}
 use native.Mathlib.Omega.{arith}
-use lib.Dec.{T, ltb}
+use lib.Dec.{ltb}
 use lib.ListN.{length, take, replicate}
 use Rattle.answers.specs.Outcome.{Check, ◌when◌, outcome, Gives}
 use Rattle.answers.specs.declared.Answer.{Answer}
@@ -70,7 +70,6 @@ module _ (words : List ℕ) (fences : List Fence) (header : Header) (out : List 
           → Gives (dump_outcome header memory out) answer given
       unfolding rows_given
       dump_done holds answer given gives =
-          let is-fine = holds in
           let bytes : take header.issued left ≡ bytes_of header memory header.issued =
-          rw (marks.1 is-fine, clear) (dump_bytes header memory (numbers is) row_limit enough (held ∙ is-fine)) in
-          rw (goes_on, is_intact, is-fine, ← bytes) gives
+          rw (marks.1 holds, clear) (dump_bytes header memory (numbers is) row_limit enough (held ∙ holds)) in
+          rw (goes_on, is_intact, holds, ← bytes) gives

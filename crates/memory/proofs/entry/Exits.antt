@@ -1,9 +1,9 @@
 -- The exits of the checks that calls begin with: a test that was answered, and each answer of the entry into an index. Assumes nothing.
 use mathlib.Core.Path.{◌≡◌, refl, sym, ◌∙◌}
-use mathlib.Core.Bool.{Bool, true, false, not}
+use mathlib.Core.Bool.{Bool, true, false}
 use Prim.Native.Nat.{ℕ, ◌*◌, ◌<◌, ◌≤◌}
 use lib.Dec.{leb}
-use borrow.Author.Tests.{not-false, le-leb, lt-leb}
+use borrow.Author.Tests.{le-leb, lt-leb}
 use Rattle.answers.specs.declared.Refusal.TheVariants.{BadHeader, Small}
 use Rattle.blocks.specs.Sizes.{block_size, fence_count}
 use Rattle.blocks.specs.declared.sizes.Sizes.{Sizes}

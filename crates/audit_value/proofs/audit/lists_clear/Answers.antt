@@ -1,6 +1,5 @@
 -- `lists_clear` meets its contract: the two answers are those for both lists.
 use mathlib.Core.Path.{◌≡◌}
-use borrow.Author.Tests.{not-true, not-false}
 use Rattle.groups.specs.Rows.{clear_from}
 use Rattle.words.specs.Words.{decode}
 use Rattle.blocks.specs.Block.{value_list}

@@ -1,8 +1,6 @@
 -- `sound_lists` meets its contract, an exit at a time: the whole check, bits at row n or above, unused words.
 use mathlib.Core.Path.{◌∙◌, sym}
 use native.Mathlib.Omega.{arith}
-use borrow.Author.Rules.{rules}
-use borrow.Author.Tests.{not-true, not-false}
 use Rattle.audit_value.proofs.audit.Exits.{not-whole, not_clear, unused_decides}
 use Rattle.blocks.proofs.whole.Verdict.{intact-whole}
 use Rattle.audit_value.proofs.audit.sound_lists.Goals as goal

@@ -4,7 +4,6 @@ use mathlib.Core.List.{List, ◌++◌}
 use Prim.Native.Nat.{ℕ}
 use lib.ListN.{length, take, drop}
 use lib.Seq.{length-take-le}
-use borrow.Author.Rules.{rules}
 use Rattle.groups.proofs.Groups.{groups-take}
 use Rattle.blocks.specs.Block.{current}
 use Rattle.blocks.proofs.WholeLists.{length-current, current-lt}

@@ -1,5 +1,4 @@
 -- `turn_over_lists` meets its contract: V is turned over before U.
-use borrow.Author.Rules.{rules}
 use Rattle.blocks.proofs.SizeLaws.{few-groups}
 use Rattle.blocks.proofs.WholeLists.{whole_parts}
 use Rattle.audit_value.proofs.audit.Turned.{value_asks, update_asks, both_turned}

@@ -1,7 +1,5 @@
 -- `unused_zero` meets its contract: the two answers are those for both rooms.
 use mathlib.Core.Path.{◌∙◌, ap}
-use borrow.Author.Rules.{rules}
-use borrow.Author.Tests.{not-true, not-false}
 use Rattle.groups.specs.Rows.{all_zero}
 use Rattle.blocks.specs.Audit.{unused_zero}
 use Rattle.blocks.proofs.WholeLists.{whole_parts}

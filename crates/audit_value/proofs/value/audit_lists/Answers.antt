@@ -4,8 +4,6 @@ use mathlib.Core.Bool.{true, false}
 use Prim.Native.Nat.{ℕ}
 use native.Mathlib.Omega.{arith}
 use lib.ListN.{length}
-use borrow.Author.Rules.{rules}
-use borrow.Author.Tests.{not-true, not-false}
 use Rattle.blocks.specs.Sizes.{block_size}
 use Rattle.blocks.specs.Audit.{sound_lists}
 use Rattle.audit_value.proofs.SoundLists.{sound_parts}

@@ -1,6 +1,5 @@
 -- `flip_for` meets its contract: nothing where the whole check finds a fault, else a turn, after a merge where one is due. Assumes nothing.
 use mathlib.Core.Path.{◌≡◌, refl, ◌∙◌, sym}
-use borrow.Author.Rules.{rules}
 use Rattle.blocks.specs.Inner.{whole_of}
 use Rattle.blocks.specs.declared.whole.Lists.TheVariants.{Intact}
 use Rattle.blocks.proofs.whole.Verdict.{faulty_whole, intact-whole, intact-ones}

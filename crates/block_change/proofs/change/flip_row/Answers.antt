@@ -1,9 +1,7 @@
 -- `flip_row` turns the row over in U, after a merge where one is due: U has room for it either way.
 use mathlib.Core.Path.{◌≡◌, refl, ◌∙◌, ap, sym}
 use mathlib.Core.Bool.{true, false}
-use mathlib.Core.Logic.{⊎_elim}
 use lib.ListN.{length}
-use borrow.Author.Rules.{rules}
 use Rattle.block_change.specs.Change.{merge_due, flipped}
 use Rattle.block_change.proofs.Flipping.{before, ready, turn_fits, length-flipped}
 use Rattle.block_change.proofs.change.flip_row.Goals as goal

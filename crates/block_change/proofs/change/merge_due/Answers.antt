@@ -1,6 +1,5 @@
 -- `merge_due` finds whether a merge is due: by U's ones, then by the row's bit in U, whose group is always read since U is whole.
 use native.Mathlib.Omega.{arith}
-use borrow.Author.Rules.{rules}
 use Rattle.block_change.proofs.change.Due.{none_due, never_broken, bit_decides}
 use Rattle.block_change.proofs.change.merge_due.Goals as goal
 

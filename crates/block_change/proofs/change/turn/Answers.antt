@@ -1,6 +1,5 @@
 -- `turn` leaves U with the row turned over, made in an array of zeros, in U's room.
 use native.Mathlib.Omega.{arith}
-use borrow.Author.Rules.{rules}
 use Rattle.block_change.proofs.change.Turns.{turned-written}
 use Rattle.block_change.proofs.change.turn.Goals as goal
 

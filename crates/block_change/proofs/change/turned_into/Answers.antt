@@ -2,9 +2,8 @@
 use mathlib.Core.Path.{sym}
 use Prim.Native.Nat.{◌≤◌}
 use native.Mathlib.Omega.{arith}
-use lib.ListN.{length, length-map}
+use lib.ListN.{length}
 use lib.Seq.{length-take-le}
-use borrow.Author.Rules.{rules}
 use Rattle.blocks.proofs.WholeLists.{whole_parts}
 use Rattle.block_change.proofs.change.Turns.{turns, combined-turned}
 use Rattle.block_change.proofs.change.turned_into.Goals as goal

@@ -1,7 +1,6 @@
 -- `current_into` copies V where U is zeros, and else combines both lists of the block.
 use mathlib.Core.Path.{refl}
 use native.Mathlib.Omega.{arith}
-use borrow.Author.Rules.{rules}
 use Rattle.words.proofs.Round.{Words}
 use Rattle.blocks.proofs.WholeLists.{WholeParts, whole_parts}
 use Rattle.block_change.proofs.current.Combines.{words-value, value_short, combines, combined-current, copied_current}

@@ -4,7 +4,6 @@ use mathlib.Core.List.{List, [], ◌∷◌, append-nil}
 use Prim.Native.Nat.{ℕ}
 use native.Mathlib.Omega.{arith}
 use lib.ListN.{length, get_or, replicate, length-replicate}
-use borrow.Author.Rules.{rules}
 use borrow.Author.Tests.{eqb-true}
 use Rattle.words.specs.Words.{run_of, group_in, decode}
 use Rattle.block_change.proofs.current.is_zero_fill.Goals as goal

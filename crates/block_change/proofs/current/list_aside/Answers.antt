@@ -6,7 +6,6 @@ use Rattle.words.specs.Words.{encode}
 use Rattle.blocks.specs.Block.{current}
 use Rattle.groups.proofs.Sets.{front}
 use Rattle.block_change.specs.Inner.{list_outcome}
-use borrow.Author.Rules.{rules}
 use Rattle.block_change.proofs.current.list_aside.Goals as goal
 
 pub slice_bounds-list-end : goal.slice_bounds-list-end

@@ -1,6 +1,5 @@
 -- `list_current` writes where the list is sure to fit; elsewhere `list_aside` answers.
 use native.Mathlib.Omega.{arith}
-use borrow.Author.Rules.{rules}
 use Rattle.blocks.proofs.WholeLists.{current-fits}
 use Rattle.block_change.proofs.current.Exits.{done}
 use Rattle.block_change.proofs.current.list_current.Goals as goal

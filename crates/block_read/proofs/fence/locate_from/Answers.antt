@@ -1,9 +1,7 @@
 -- `locate_from` meets its contract. The loop's invariant: the word sought is the one that is found from place `place` and group `first` on. Assumes nothing.
-use mathlib.Core.Path.{◌≡◌, refl, ◌∙◌, sym}
-use Prim.Native.Nat.{◌-◌, ◌≤◌}
+use mathlib.Core.Path.{refl, ◌∙◌, sym}
 use native.Mathlib.Omega.{arith}
-use lib.ListN.{length, get_or}
-use Rattle.block_read.specs.Fences.{fence_of, locate_from}
+use lib.ListN.{get_or}
 use Rattle.block_read.proofs.fence.Steps.{span-lt, ends, covers, passes}
 use Rattle.block_read.proofs.fence.locate_from.Goals as goal
 

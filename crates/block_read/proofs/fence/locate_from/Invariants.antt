@@ -1,10 +1,8 @@
 -- `locate_from` meets its contract. The loop's invariant: the word sought is the one that is found from place `place` and group `first` on. Assumes nothing.
-use mathlib.Core.Path.{◌≡◌, refl, ◌∙◌, sym}
+use mathlib.Core.Path.{◌≡◌}
 use Prim.Native.Nat.{◌-◌, ◌≤◌}
-use native.Mathlib.Omega.{arith}
-use lib.ListN.{length, get_or}
+use lib.ListN.{length}
 use Rattle.block_read.specs.Fences.{fence_of, locate_from}
-use Rattle.block_read.proofs.fence.Steps.{span-lt, ends, covers, passes}
 use Rattle.block_read.proofs.fence.locate_from.Given as goal
 
 abbrev pub invariant-loop-place : goal.invariant-loop-place

@@ -6,7 +6,6 @@ use lib.ListN.{length}
 use Rattle.block_read.specs.Fences.{locate_from}
 use Rattle.blocks.proofs.Blocks.{length-value_list}
 use Rattle.blocks.proofs.SizeLaws.{few_words}
-use borrow.Author.Rules.{rules}
 use Rattle.block_read.proofs.fence.next_fence.Goals as goal
 
 pub locate_from-requires : goal.locate_from-requires

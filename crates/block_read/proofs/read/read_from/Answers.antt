@@ -1,6 +1,5 @@
 -- `read_from` meets its contract: its answer is the reading of the walk's. Assumes nothing.
 use mathlib.Core.Path.{refl}
-use borrow.Author.Rules.{rules}
 use Rattle.block_read.proofs.read.read_from.Goals as goal
 
 pub returns-in_default : goal.returns-in_default

@@ -1,7 +1,6 @@
 -- `read_group` meets its contract: its answer joins the reading of V and the reading of U, which comes first. Assumes nothing.
 use mathlib.Core.Path.{refl, sym, ◌∙◌}
 use native.Mathlib.Omega.{arith}
-use borrow.Author.Rules.{rules}
 use Rattle.block_read.specs.Read.{read_value, read_group}
 use Rattle.block_read.proofs.Readings.{group_says}
 use Rattle.block_read.proofs.read.Exits.{broken_update, group_joined}

@@ -2,7 +2,6 @@
 use mathlib.Core.Path.{◌∙◌}
 use native.Mathlib.Omega.{arith}
 use Rattle.block_read.proofs.read.Exits.{update_long, update_walked}
-use borrow.Author.Rules.{rules}
 use Rattle.block_read.proofs.read.read_update.Goals as goal
 
 pub returns-then-room-update_length : goal.returns-then-room-update_length

@@ -1,13 +1,10 @@
 -- `read_value` meets its contract: a length past V's room or a place past the length is damage, and else the answer is the walk's over V from the place on.
 -- Assumes nothing.
 use mathlib.Core.Path.{◌≡◌, ◌∙◌, ap}
-use Prim.Native.Nat.{◌≤◌}
 use native.Mathlib.Omega.{arith}
 use lib.ListN.{length}
-use Rattle.blocks.specs.Block.{value_length}
 use Rattle.blocks.proofs.Blocks.{length-value_list}
 use Rattle.block_read.proofs.read.Exits.{value_long, value_misplaced, value_walked}
-use borrow.Author.Rules.{rules}
 use Rattle.block_read.proofs.read.read_value.Goals as goal
 
 pub returns-then-sizes-length : goal.returns-then-sizes-length

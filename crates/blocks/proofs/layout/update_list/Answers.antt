@@ -1,8 +1,6 @@
 -- `update_list` meets its contract: the slice is U. Assumes nothing.
 use mathlib.Core.Path.{refl}
-use native.Mathlib.Omega.{arith}
 use Rattle.blocks.proofs.Parts.{update_slice}
-use borrow.Author.Rules.{rules}
 use Rattle.blocks.proofs.layout.update_list.Goals as goal
 
 pub returns : goal.returns

@@ -2,7 +2,6 @@
 use mathlib.Core.Path.{refl}
 use native.Mathlib.Omega.{arith}
 use Rattle.blocks.proofs.Parts.{update_unused_slice}
-use borrow.Author.Rules.{rules}
 use Rattle.blocks.proofs.layout.update_unused.Goals as goal
 
 pub returns : goal.returns

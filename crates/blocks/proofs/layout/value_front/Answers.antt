@@ -1,8 +1,6 @@
 -- `value_front` meets its contract: the slice is the front of V's room. Assumes nothing.
 use mathlib.Core.Path.{refl}
-use native.Mathlib.Omega.{arith}
 use Rattle.blocks.proofs.Parts.{value-front_slice}
-use borrow.Author.Rules.{rules}
 use Rattle.blocks.proofs.layout.value_front.Goals as goal
 
 pub returns : goal.returns

@@ -1,6 +1,5 @@
 -- `value_length` meets its contract. Assumes nothing.
 use native.Mathlib.Omega.{arith}
-use borrow.Author.Rules.{rules}
 use Rattle.blocks.proofs.layout.value_length.Goals as goal
 
 pub overflow_cast-result : goal.overflow_cast-result

@@ -1,8 +1,6 @@
 -- `value_list` meets its contract: the slice is V. Assumes nothing.
 use mathlib.Core.Path.{refl}
-use native.Mathlib.Omega.{arith}
 use Rattle.blocks.proofs.Parts.{value_slice}
-use borrow.Author.Rules.{rules}
 use Rattle.blocks.proofs.layout.value_list.Goals as goal
 
 pub returns : goal.returns

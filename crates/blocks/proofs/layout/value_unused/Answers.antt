@@ -1,8 +1,6 @@
 -- `value_unused` meets its contract: the slice is what V leaves unused. Assumes nothing.
 use mathlib.Core.Path.{refl}
-use native.Mathlib.Omega.{arith}
 use Rattle.blocks.proofs.Parts.{value_unused_slice}
-use borrow.Author.Rules.{rules}
 use Rattle.blocks.proofs.layout.value_unused.Goals as goal
 
 pub returns : goal.returns

@@ -1,6 +1,5 @@
 -- `clear_update` puts a room whose one word is the fill of all groups with 0: the all_zero_lem list.
 use native.Mathlib.Omega.{arith}
-use borrow.Author.Rules.{rules}
 use Rattle.blocks.proofs.put.Stores.{cleared}
 use Rattle.blocks.proofs.put.clear_update.Goals as goal
 

@@ -2,11 +2,10 @@
 use mathlib.Core.Path.{refl, ◌∙◌, sym}
 use Prim.Native.Nat.{◌+◌}
 use native.Mathlib.Omega.{arith}
-use lib.ListN.{take, length-set}
+use lib.ListN.{take}
 use lib.Seq.{length-take-le}
 use Rattle.blocks.specs.Sizes.{value_room}
 use Rattle.blocks.proofs.put.Stores.{copy_fits, stored, stored_long, update_writes}
-use borrow.Author.Rules.{rules}
 use Rattle.blocks.proofs.put.put_update.Goals as goal
 
 pub slice_bounds-copy-end : goal.slice_bounds-copy-end

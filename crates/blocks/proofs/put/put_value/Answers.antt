@@ -1,11 +1,10 @@
 -- `put_value` stores the length and copies the room: together the block with another V.
 use mathlib.Core.Path.{◌∙◌, sym}
 use native.Mathlib.Omega.{arith}
-use lib.ListN.{take, length-set}
+use lib.ListN.{take}
 use lib.Seq.{length-take-le}
 use Rattle.blocks.specs.Sizes.{value_room}
 use Rattle.blocks.proofs.put.Stores.{copy_fits, stored, stored_long, value_writes}
-use borrow.Author.Rules.{rules}
 use Rattle.blocks.proofs.put.put_value.Goals as goal
 
 pub slice_bounds-copy-end : goal.slice_bounds-copy-end

@@ -3,7 +3,6 @@ use mathlib.Core.Path.{refl}
 use native.Mathlib.Omega.{arith}
 use Rattle.blocks.specs.Sizes.{fences_for}
 use Rattle.blocks.proofs.SizeLaws.{rounded_few}
-use borrow.Author.Rules.{rules}
 use Rattle.blocks.proofs.sizes.sizes_for.Goals as goal
 
 pub overflow_cast-result : goal.overflow_cast-result

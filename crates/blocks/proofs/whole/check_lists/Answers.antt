@@ -2,7 +2,6 @@
 use mathlib.Core.Path.{◌∙◌, sym}
 use native.Mathlib.Omega.{arith}
 use Rattle.blocks.proofs.whole.Exits.{value_exceeds, update_exceeds, value_bad, update_bad, ones_fit, ones_exceed, intact}
-use borrow.Author.Rules.{rules}
 use Rattle.blocks.proofs.whole.check_lists.Goals as goal
 
 pub returns-then-sizes-value_length : goal.returns-then-sizes-value_length

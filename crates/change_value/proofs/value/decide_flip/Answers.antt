@@ -1,7 +1,6 @@
 -- `decide_flip` decides by the block of the value.
 use mathlib.Core.Path.{◌∙◌, ap}
 use lib.ListN.{length}
-use borrow.Author.Rules.{rules}
 use Rattle.memory.proofs.Places.{length-block_at}
 use Rattle.change_value.proofs.value.decide_flip.Goals as goal
 

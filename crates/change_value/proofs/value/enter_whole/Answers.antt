@@ -1,7 +1,6 @@
 -- `enter_whole` meets its contract: DAMAGED behind the checks of a value, whose block lies inside the words once they pass. Assumes nothing.
 use mathlib.Core.Path.{◌≡◌, ◌∙◌, ap, sym}
 use lib.ListN.{length}
-use borrow.Author.Rules.{rules}
 use Rattle.blocks.specs.Inner.{whole_of}
 use Rattle.memory.specs.Inner.{Fenced}
 use Rattle.memory.specs.Memory.{block_at}

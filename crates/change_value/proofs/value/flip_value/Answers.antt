@@ -3,7 +3,6 @@ use mathlib.Core.Path.{◌∙◌, ap}
 use Prim.Native.Nat.{◌+◌, ◌*◌, ◌≤◌}
 use native.Mathlib.Omega.{arith}
 use lib.ListN.{length}
-use borrow.Author.Rules.{rules}
 use Rattle.block_change.specs.Change.{flipped}
 use Rattle.block_change.proofs.Flipping.{length-flipped}
 use Rattle.memory.specs.Memory.{block_at}

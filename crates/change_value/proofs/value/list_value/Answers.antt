@@ -1,7 +1,6 @@
 -- `list_value` lists the block of the value.
 use mathlib.Core.Path.{◌∙◌, ap}
 use lib.ListN.{length}
-use borrow.Author.Rules.{rules}
 use Rattle.memory.proofs.Places.{length-block_at}
 use Rattle.change_value.specs.Change.{whole}
 use Rattle.change_value.proofs.value.list_value.Goals as goal

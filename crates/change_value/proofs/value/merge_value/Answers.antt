@@ -3,7 +3,6 @@ use mathlib.Core.Path.{◌∙◌, ap}
 use Prim.Native.Nat.{◌+◌, ◌*◌, ◌≤◌}
 use native.Mathlib.Omega.{arith}
 use lib.ListN.{length}
-use borrow.Author.Rules.{rules}
 use Rattle.block_change.specs.Change.{merged}
 use Rattle.block_change.proofs.Merging.{length_merged}
 use Rattle.memory.specs.Memory.{block_at}

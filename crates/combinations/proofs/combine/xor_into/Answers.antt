@@ -1,7 +1,7 @@
 -- `xor_into` writes the XOR of two lists. The loop's invariant is `Combining`: the first `done` groups of both lists are combined and, but for
 -- what is pending, written. A turn copies words of the left list and takes a step after them. The measure is how many groups are left.
 use mathlib.Core.Path.{ap}
-use Prim.Native.Nat.{◌+◌, ◌-◌}
+use Prim.Native.Nat.{◌+◌}
 use native.Mathlib.Nat.{add_assoc}
 use native.Mathlib.Omega.{arith}
 use lib.Bits.{bit_xor}

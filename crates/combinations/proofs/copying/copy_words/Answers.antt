@@ -1,6 +1,5 @@
 -- `copy_words` copies a part of the list over a part of the output.
 use mathlib.Core.Path.{refl}
-use borrow.Author.Rules.{rules}
 use Rattle.combinations.proofs.copying.Passing.{part_copied}
 use Rattle.combinations.proofs.copying.copy_words.Goals as goal
 

@@ -1,6 +1,6 @@
 -- `covered_by` adds the spans of the words. The loop's invariant: the sum is that of the words read. The measure is how many words are left.
 use mathlib.Core.Path.{◌≡◌, refl, ◌∙◌}
-use Prim.Native.Nat.{◌+◌, ◌-◌, ◌≤◌}
+use Prim.Native.Nat.{◌+◌}
 use native.Mathlib.Omega.{arith}
 use lib.ListN.{length, take}
 use lib.Seq.{take_all}

@@ -1,11 +1,8 @@
 -- `covered_by` adds the spans of the words. The loop's invariant: the sum is that of the words read. The measure is how many words are left.
-use mathlib.Core.Path.{◌≡◌, refl, ◌∙◌}
-use Prim.Native.Nat.{◌+◌, ◌-◌, ◌≤◌}
-use native.Mathlib.Omega.{arith}
+use mathlib.Core.Path.{◌≡◌}
+use Prim.Native.Nat.{◌-◌, ◌≤◌}
 use lib.ListN.{length, take}
-use lib.Seq.{take_all}
 use Rattle.words.specs.Words.{decode}
-use Rattle.words.proofs.Forms.{length_upto, length_split}
 use Rattle.combinations.proofs.copying.covered_by.Given as goal
 
 abbrev pub invariant-loop-i : goal.invariant-loop-i

@@ -1,6 +1,5 @@
 -- `goes_on` compares the group with that of the run, if one is pending.
 use mathlib.Core.Path.{refl}
-use borrow.Author.Rules.{rules}
 use borrow.Author.Tests.{ne_eqb}
 use Rattle.combinations.specs.Inner.{goes_on}
 use Rattle.combinations.proofs.copying.goes_on.Goals as goal

@@ -5,7 +5,6 @@ use Prim.Native.Nat.{ℕ, ◌-◌, ◌<◌}
 use native.Mathlib.Omega.{arith}
 use lib.ListN.{length, take, drop, length-drop}
 use lib.Seq.{take_all}
-use borrow.Author.Rules.{rules}
 use Rattle.words.proofs.Forms.{length_split}
 use Rattle.combinations.specs.Inner.{not_copied, Copies}
 use Rattle.combinations.proofs.span.Opening.{length-remaining, opens_at}

@@ -1,13 +1,11 @@
 -- `reach_of` goes on from the strides while the next word ends before the last of the zeros. The loop's invariant: the words passed reach so far, and `end` is
 -- where the next word ends. The measure is how many words are left.
-use mathlib.Core.Path.{◌≡◌, refl}
+use mathlib.Core.Path.{◌≡◌}
 use Prim.Native.Nat.{◌+◌, ◌-◌}
-use native.Mathlib.Omega.{arith}
 use lib.ListN.{length}
 use Rattle.words.specs.Words.{span}
-use Rattle.words.proofs.Forms.{run_at, length_upto}
+use Rattle.words.proofs.Forms.{run_at}
 use Rattle.combinations.specs.Inner.{Reaches}
-use Rattle.combinations.proofs.copying.Passing.{next-few, reaches}
 use Rattle.combinations.proofs.copying.reach_of.Given as goal
 
 abbrev pub invariant-loop-end : goal.invariant-loop-end

@@ -2,7 +2,6 @@
 use Prim.Native.Nat.{◌<◌}
 use native.Mathlib.Omega.{arith}
 use lib.ListN.{length}
-use borrow.Author.Rules.{rules}
 use Rattle.combinations.proofs.span.Opening.{opens_at, opens}
 use Rattle.combinations.proofs.span.opened.Goals as goal
 

@@ -1,7 +1,6 @@
 -- `by_bit` meets its contract: a row's mask picks its bit. Assumes nothing.
 use Prim.Native.Nat.{◌/◌, ◌^◌}
 use lib.Bits.{bit_and}
-use borrow.Author.Rules.{rules}
 use borrow.Author.Tests.{eq-eqb, ne_eqb}
 use Rattle.dump_marks.proofs.marking.Whole.{picked}
 use Rattle.dump_marks.proofs.marking.by_bit.Goals as goal

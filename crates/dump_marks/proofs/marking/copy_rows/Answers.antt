@@ -1,9 +1,8 @@
 -- `copy_rows` meets its contract: after i turns i rows are copied, and the others are as they were. Assumes nothing.
 use mathlib.Core.Path.{◌≡◌, refl}
-use Prim.Native.Nat.{◌-◌, ◌≤◌}
 use native.Mathlib.Omega.{arith}
-use lib.ListN.{length, drop, length-set}
-use lib.Seq.{paste, paste-zero}
+use lib.ListN.{drop, length-set}
+use lib.Seq.{paste-zero}
 use Rattle.dump_marks.proofs.marking.Copied.{copies}
 use Rattle.dump_marks.proofs.marking.copy_rows.Goals as goal
 

@@ -1,10 +1,8 @@
 -- `copy_rows` meets its contract: after i turns i rows are copied, and the others are as they were. Assumes nothing.
-use mathlib.Core.Path.{◌≡◌, refl}
+use mathlib.Core.Path.{◌≡◌}
 use Prim.Native.Nat.{◌-◌, ◌≤◌}
-use native.Mathlib.Omega.{arith}
-use lib.ListN.{length, drop, length-set}
-use lib.Seq.{paste, paste-zero}
-use Rattle.dump_marks.proofs.marking.Copied.{copies}
+use lib.ListN.{length, drop}
+use lib.Seq.{paste}
 use Rattle.dump_marks.proofs.marking.copy_rows.Given as goal
 
 abbrev pub invariant-loop-i : goal.invariant-loop-i

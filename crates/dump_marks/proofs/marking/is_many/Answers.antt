@@ -1,6 +1,5 @@
 -- `is_many` meets its contract: each test that fails is an answer of its own. Assumes nothing.
 use mathlib.Core.Bool.{false≢true}
-use borrow.Author.Rules.{rules}
 use Rattle.dump_marks.proofs.marking.is_many.Goals as goal
 
 pub returns-then-bits-eq0 : goal.returns-then-bits-eq0

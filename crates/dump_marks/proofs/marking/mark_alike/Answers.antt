@@ -1,6 +1,5 @@
 -- `mark_alike` meets its contract: zeros change nothing, ones mark every row, and another group stands alone. Assumes nothing.
 use mathlib.Core.Path.{sym}
-use borrow.Author.Rules.{rules}
 use Rattle.dump_marks.proofs.marking.Uniform.{zeros-free, zeros_keep}
 use Rattle.dump_marks.proofs.marking.mark_alike.Goals as goal
 

@@ -1,11 +1,7 @@
 -- `mark_all` meets its contract. The loop's invariant is `Passing`: the rows before `row` are told and marked. Assumes nothing.
 use mathlib.Core.Path.{refl}
-use Prim.Native.Nat.{◌-◌}
 use native.Mathlib.Omega.{arith}
-use lib.ListN.{length}
-use Rattle.words.specs.Words.{all_ones}
-use Rattle.dump_marks.specs.Inner.{free_in_group, marked_in_group}
-use Rattle.dump_marks.proofs.marking.Passing.{Passing, begin, ends, next_row}
+use Rattle.dump_marks.proofs.marking.Passing.{begin, ends, next_row}
 use Rattle.dump_marks.proofs.marking.Uniform.{ones-set}
 use Rattle.dump_marks.proofs.marking.mark_all.Goals as goal
 

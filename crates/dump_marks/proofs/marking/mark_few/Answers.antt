@@ -2,7 +2,7 @@
 use native.Mathlib.Omega.{arith}
 use lib.Count.{count_leading_zeros}
 use Rattle.dump_marks.proofs.marking.HighestBit.{Top, top, shrinks, mask}
-use Rattle.dump_marks.proofs.marking.Marking.{Marking, begin, ends, behind, taken, next_row}
+use Rattle.dump_marks.proofs.marking.Marking.{begin, ends, behind, taken, next_row}
 use Rattle.dump_marks.proofs.marking.mark_few.Goals as goal
 
 pub loop-rest-init : goal.loop-rest-init

@@ -1,8 +1,5 @@
 -- `mark_few` meets its contract. The loop's invariant is `Marking`: the rows whose bit is no longer in `rest` are done. Assumes nothing.
-use native.Mathlib.Omega.{arith}
-use lib.Count.{count_leading_zeros}
-use Rattle.dump_marks.proofs.marking.HighestBit.{Top, top, shrinks, mask}
-use Rattle.dump_marks.proofs.marking.Marking.{Marking, begin, ends, behind, taken, next_row}
+use Rattle.dump_marks.proofs.marking.Marking.{Marking}
 use Rattle.dump_marks.proofs.marking.mark_few.Given as goal
 
 abbrev pub invariant-loop-rest : goal.invariant-loop-rest

@@ -1,9 +1,7 @@
 -- `mark_whole` meets its contract. The loop's invariant is `Passing`: the rows before `row` are told and marked. Assumes nothing.
 use Prim.Native.Nat.{◌-◌}
-use native.Mathlib.Omega.{arith}
-use Rattle.dump_marks.specs.Inner.{free_in_groups, marked_in_groups, groups_hold, groups_marked, alike}
-use Rattle.dump_marks.proofs.marking.Passing.{Passing, begin, ends}
-use Rattle.dump_marks.proofs.marking.Whole.{next-many}
+use Rattle.dump_marks.specs.Inner.{free_in_groups, marked_in_groups, alike}
+use Rattle.dump_marks.proofs.marking.Passing.{Passing}
 use Rattle.dump_marks.proofs.marking.mark_whole.Given as goal
 
 abbrev pub invariant-loop-row : goal.invariant-loop-row

@@ -2,7 +2,6 @@
 use mathlib.Core.Path.{refl}
 use Prim.Native.Nat.{ℕ, ◌+◌, ◌-◌, ◌/◌, ◌≤◌}
 use native.Mathlib.Omega.{arith}
-use borrow.Author.Rules.{rules}
 use Rattle.groups.specs.Rows.{row_limit, groups_for}
 use Rattle.blocks.specs.Sizes.{fences_for}
 use Rattle.dump_spans.proofs.dump.Visits.{few_visits}

@@ -1,6 +1,5 @@
 -- `give_rows` gives the first rows where the output has room for them. Assumes nothing.
 use native.Mathlib.Omega.{arith}
-use borrow.Author.Rules.{rules}
 use Rattle.dump_spans.proofs.dump.Giving.{no_room, given}
 use Rattle.dump_spans.proofs.dump.give_rows.Goals as goal
 

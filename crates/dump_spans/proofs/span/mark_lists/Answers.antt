@@ -5,8 +5,6 @@ use mathlib.Core.Bool.{Bool, true, false}
 use mathlib.Core.List.{List}
 use Prim.Native.Nat.{ℕ, ◌+◌, ◌-◌, ◌<◌, ◌≤◌}
 use native.Mathlib.Omega.{arith}
-use borrow.Author.Rules.{rules}
-use borrow.Author.Tests.{not-true, not-false}
 use lib.ListN.{length}
 use Rattle.list_walk.specs.Walk.{walk_to}
 use Rattle.blocks.specs.Sizes.{update_room}
@@ -15,7 +13,7 @@ use Rattle.block_read.specs.declared.read.Reading.TheVariants.{Broken}
 use Rattle.dump_spans.specs.Inner.{in_lists}
 use Rattle.dump_spans.specs.declared.span.Span.{Span}
 use Rattle.dump_spans.proofs.span.Spanning.{Spanned, Spanning, begin, keeps_length, ends, next-groups, stops_at, breaks_at}
-use Rattle.dump_spans.proofs.span.Reaching.{bits_small, value_broken, update_broken, Reached, read_alike}
+use Rattle.dump_spans.proofs.span.Reaching.{bits_small, value_broken, update_broken, read_alike}
 use Rattle.dump_spans.proofs.span.mark_lists.Goals as goal
 
 pub returns-in_default : goal.returns-in_default

@@ -1,5 +1,5 @@
 -- `mark_value`: each round asks the next fence of the value and marks the rows that it serves; damage ends it.
-use Rattle.std.proofs.Common.{arith, refl, ◌∙◌}
+use Rattle.std.proofs.Common.{arith, refl}
 use Rattle.fence_records.proofs.marking.Rounds.{count_asks, none_visited, fence_asks, fence_seen, fence_damaged, all_visited}
 use Rattle.fence_records.proofs.marking.mark_value.Goals as goal
 

@@ -1,5 +1,5 @@
 -- `dump_rows`: the rows are marked in an array of their own, and given if none is damaged.
-use Rattle.std.proofs.Common.{arith, ◌≡◌, length, refl}
+use Rattle.std.proofs.Common.{arith, refl}
 use Rattle.fence_records.proofs.marking.Rounds.{count_asks}
 use Rattle.index.proofs.dumping.Exits.{dump_damaged, dump_done}
 use Rattle.index.proofs.dumping.dump_rows.Goals as goal

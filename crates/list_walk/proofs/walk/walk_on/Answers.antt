@@ -2,7 +2,6 @@
 use mathlib.Core.Path.{◌∙◌, sym}
 use native.Mathlib.Nat.{sub-zero}
 use native.Mathlib.Omega.{arith}
-use borrow.Author.Rules.{rules}
 use Rattle.list_walk.proofs.walk.Steps.{ends, spends, counts_none, covers}
 use Rattle.list_walk.proofs.Onward.{on_same, on_next}
 use Rattle.list_walk.proofs.walk.walk_on.Goals as goal

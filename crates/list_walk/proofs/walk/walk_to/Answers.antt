@@ -1,11 +1,7 @@
 -- `walk_to` meets its contract. The loop's invariant: the walk asked for is the one from place `opened` on, with `skip` groups to pass. Assumes nothing.
-use mathlib.Core.Path.{◌≡◌, ◌∙◌, sym}
-use Prim.Native.Nat.{min, ◌-◌}
+use mathlib.Core.Path.{◌∙◌, sym}
 use native.Mathlib.Omega.{arith}
-use lib.ListN.{length}
-use borrow.Author.Rules.{rules}
-use Rattle.list_walk.specs.Walk.{walk_to}
-use Rattle.list_walk.proofs.walk.Steps.{walk_from, starts_late, starts, stops, counts_none, covers, passes}
+use Rattle.list_walk.proofs.walk.Steps.{starts_late, starts, stops, counts_none, covers, passes}
 use Rattle.list_walk.proofs.walk.walk_to.Goals as goal
 
 pub returns-then-group-first : goal.returns-then-group-first

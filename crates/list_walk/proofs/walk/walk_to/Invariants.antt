@@ -1,11 +1,9 @@
 -- `walk_to` meets its contract. The loop's invariant: the walk asked for is the one from place `opened` on, with `skip` groups to pass. Assumes nothing.
-use mathlib.Core.Path.{◌≡◌, ◌∙◌, sym}
+use mathlib.Core.Path.{◌≡◌}
 use Prim.Native.Nat.{min, ◌-◌}
-use native.Mathlib.Omega.{arith}
 use lib.ListN.{length}
-use borrow.Author.Rules.{rules}
 use Rattle.list_walk.specs.Walk.{walk_to}
-use Rattle.list_walk.proofs.walk.Steps.{walk_from, starts_late, starts, stops, counts_none, covers, passes}
+use Rattle.list_walk.proofs.walk.Steps.{walk_from}
 use Rattle.list_walk.proofs.walk.walk_to.Given as goal
 
 abbrev pub invariant-loop-opened : goal.invariant-loop-opened

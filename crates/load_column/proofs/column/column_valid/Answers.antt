@@ -1,7 +1,6 @@
 -- `column_valid` meets its contract: the column is valid where the largest byte so far and the bytes to come are. Assumes nothing.
-use Rattle.std.proofs.Common.{◌≡◌, ◌-◌, ◌≤◌, max, length, sym, ◌∙◌, ⊎_elim, arith, rules}
-use Rattle.memory.specs.Entry.{valid_column}
-use Rattle.load_column.proofs.column.Bytes.{valid_from, none_seen, one_seen, all_seen}
+use Rattle.std.proofs.Common.{◌≡◌, max, sym, ◌∙◌, ⊎_elim, arith}
+use Rattle.load_column.proofs.column.Bytes.{none_seen, one_seen, all_seen}
 use Rattle.load_column.proofs.column.column_valid.Goals as goal
 
 pub loop-i-init : goal.loop-i-init

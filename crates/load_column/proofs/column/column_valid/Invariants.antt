@@ -1,7 +1,7 @@
 -- `column_valid` meets its contract: the column is valid where the largest byte so far and the bytes to come are. Assumes nothing.
-use Rattle.std.proofs.Common.{◌≡◌, ◌-◌, ◌≤◌, max, length, sym, ◌∙◌, ⊎_elim, arith, rules}
+use Rattle.std.proofs.Common.{◌≡◌, ◌-◌, ◌≤◌, length}
 use Rattle.memory.specs.Entry.{valid_column}
-use Rattle.load_column.proofs.column.Bytes.{valid_from, none_seen, one_seen, all_seen}
+use Rattle.load_column.proofs.column.Bytes.{valid_from}
 use Rattle.load_column.proofs.column.column_valid.Given as goal
 
 abbrev pub invariant-loop-i : goal.invariant-loop-i

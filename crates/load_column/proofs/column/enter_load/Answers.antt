@@ -1,5 +1,4 @@
 -- `enter_load` meets its contract: BAD_VALUE, then FULL, behind the checks of an index with no row. Assumes nothing.
-use Rattle.std.proofs.Common.{rules}
 use Rattle.load_column.proofs.column.enter_load.Goals as goal
 
 pub returns : goal.returns

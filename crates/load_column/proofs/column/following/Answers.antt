@@ -1,5 +1,5 @@
 -- `following` meets its contract: 255 is followed by 0. Assumes nothing.
-use Rattle.std.proofs.Common.{◌<◌, arith, rules}
+use Rattle.std.proofs.Common.{◌<◌, arith}
 use Rattle.load_column.proofs.column.Bytes.{follows}
 use Rattle.load_column.proofs.column.following.Goals as goal
 

@@ -1,5 +1,5 @@
 -- `load_blocks` meets its contract: the blocks are packed from the groups that the pass over the column left. Assumes nothing.
-use Rattle.std.proofs.Common.{◌∙◌, rules}
+use Rattle.std.proofs.Common.{◌∙◌}
 use Rattle.load_column.proofs.Loading.{spread_packed}
 use Rattle.load_column.proofs.column.load_blocks.Goals as goal
 

@@ -2,7 +2,6 @@
 use Rattle.std.proofs.Common.{◌≡◌, ◌+◌, ◌-◌, ◌*◌, ◌≤◌, length, drop, refl, ap, ◌∙◌, mul-le-mul_right, suc-mul, zero-mul, add-one, arith, length-drop, length-take-le}
 use Rattle.blocks.specs.Sizes.{block_size}
 use Rattle.blocks.proofs.SizeLaws.{place-fits}
-use Rattle.load_column.specs.Inner.{packed_words}
 use Rattle.load_column.proofs.Loading.{packs_none, length_packs, packs_next}
 use Rattle.load_column.proofs.column.pack_blocks.Goals as goal
 

@@ -1,5 +1,5 @@
 -- `add_row` meets its contract: a store past the last group changes nothing. Assumes nothing.
-use Rattle.std.proofs.Common.{sym, arith, rules}
+use Rattle.std.proofs.Common.{sym, arith}
 use lib.Seq.{set_out}
 use Rattle.load_column.proofs.spread.add_row.Goals as goal
 

@@ -1,5 +1,5 @@
 -- `clear` meets its contract: after so many turns as many words are 0. Assumes nothing.
-use Rattle.std.proofs.Common.{◌≡◌, ℕ, ◌-◌, ◌≤◌, List, ◌++◌, length, drop, set, replicate, refl, ap, ◌∙◌, arith}
+use Rattle.std.proofs.Common.{◌≡◌, ℕ, List, length, set, refl, ap, ◌∙◌, arith}
 use Rattle.load_column.proofs.spread.Spreading.{length-cleared, clears_more}
 use Rattle.load_column.proofs.spread.clear.Goals as goal
 

@@ -1,6 +1,5 @@
 -- `clear` meets its contract: after so many turns as many words are 0. Assumes nothing.
-use Rattle.std.proofs.Common.{◌≡◌, ℕ, ◌-◌, ◌≤◌, List, ◌++◌, length, drop, set, replicate, refl, ap, ◌∙◌, arith}
-use Rattle.load_column.proofs.spread.Spreading.{length-cleared, clears_more}
+use Rattle.std.proofs.Common.{◌≡◌, ◌-◌, ◌≤◌, ◌++◌, drop, replicate}
 use Rattle.load_column.proofs.spread.clear.Given as goal
 
 abbrev pub invariant-loop-i : goal.invariant-loop-i

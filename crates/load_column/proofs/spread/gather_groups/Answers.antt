@@ -1,6 +1,6 @@
 -- `gather_groups` meets its contract: after i turns the first i rows are gathered. Assumes nothing.
-use Rattle.std.proofs.Common.{◌-◌, length, refl, ◌∙◌, arith, take_all}
-use Rattle.load_column.proofs.spread.Gathering.{Gathering, gather_none, row_fits, gather_more}
+use Rattle.std.proofs.Common.{refl, ◌∙◌, take_all}
+use Rattle.load_column.proofs.spread.Gathering.{gather_none, row_fits, gather_more}
 use Rattle.load_column.proofs.spread.gather_groups.Goals as goal
 
 pub loop-i-init : goal.loop-i-init

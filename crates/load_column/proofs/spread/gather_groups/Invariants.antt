@@ -1,6 +1,6 @@
 -- `gather_groups` meets its contract: after i turns the first i rows are gathered. Assumes nothing.
-use Rattle.std.proofs.Common.{◌-◌, length, refl, ◌∙◌, arith, take_all}
-use Rattle.load_column.proofs.spread.Gathering.{Gathering, gather_none, row_fits, gather_more}
+use Rattle.std.proofs.Common.{◌-◌, length}
+use Rattle.load_column.proofs.spread.Gathering.{Gathering}
 use Rattle.load_column.proofs.spread.gather_groups.Given as goal
 
 abbrev pub invariant-loop-i : goal.invariant-loop-i

@@ -1,6 +1,5 @@
 -- `one_byte` meets its contract: the length first, then two windows of rows. Assumes nothing.
-use Rattle.std.proofs.Common.{◌≡◌, true, false, length, get_or, take, drop, sym, refl, ◌∙◌, arith, rules, eq-eqb, ne_eqb}
-use borrow.Author.Tests.{not-true, not-false}
+use Rattle.std.proofs.Common.{◌≡◌, true, false, length, get_or, take, drop, sym, refl, ◌∙◌, arith, eq-eqb, ne_eqb}
 use Rattle.load_list.specs.Inner.{all_alike}
 use Rattle.load_column.proofs.spread.Alike.{window_length, two_windows}
 use Rattle.load_column.proofs.spread.one_byte.Goals as goal

@@ -1,7 +1,6 @@
 -- `put_groups` meets its contract: after so many turns the groups of as many values are put. Assumes nothing.
-use Rattle.std.proofs.Common.{◌≡◌, ◌+◌, ◌-◌, ◌*◌, ◌≤◌, length, get_or, refl, arith}
+use Rattle.std.proofs.Common.{◌≡◌, ◌+◌, ◌*◌, ◌≤◌, length, get_or, refl, arith}
 use Rattle.blocks.proofs.SizeLaws.{place-fits}
-use Rattle.load_column.specs.Inner.{Placed}
 use Rattle.load_column.proofs.spread.Placing.{place_none, place-more, next_place}
 use Rattle.load_column.proofs.spread.put_groups.Goals as goal
 

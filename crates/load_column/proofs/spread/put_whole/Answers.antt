@@ -1,5 +1,5 @@
 -- `put_whole` meets its contract: one word where 0 stands, or none. Assumes nothing.
-use Rattle.std.proofs.Common.{◌+◌, ◌*◌, ◌≤◌, length, arith, rules}
+use Rattle.std.proofs.Common.{◌+◌, ◌*◌, ◌≤◌, length, arith}
 use Rattle.blocks.proofs.SizeLaws.{place-fits}
 use Rattle.load_column.proofs.spread.Placing.{place-whole, place_nowhere}
 use Rattle.load_column.proofs.spread.put_whole.Goals as goal

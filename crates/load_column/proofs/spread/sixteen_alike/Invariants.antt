@@ -1,7 +1,6 @@
 -- `sixteen_alike` meets its contract: the rows are alike where no bit differs so far and the rows still to come are alike. Assumes nothing.
-use Rattle.std.proofs.Common.{◌≡◌, ◌-◌, ◌≤◌, ◌&&◌, eqb, drop, sym, refl, ◌∙◌, arith}
+use Rattle.std.proofs.Common.{◌≡◌, ◌-◌, ◌≤◌, ◌&&◌, eqb, drop}
 use Rattle.load_list.specs.Inner.{all_alike}
-use Rattle.load_list.proofs.listing.Alike.{differs_more, differs_all}
 use Rattle.load_column.proofs.spread.sixteen_alike.Given as goal
 
 abbrev pub invariant-loop-i : goal.invariant-loop-i

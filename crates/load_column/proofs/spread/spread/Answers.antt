@@ -1,7 +1,7 @@
 -- `spread` meets its contract: the blocks are cleared, and then its loop keeps `Spreading`. Assumes nothing.
-use Rattle.std.proofs.Common.{◌≡◌, ◌+◌, ◌-◌, ◌*◌, ◌≤◌, length, drop, ap, ◌∙◌, arith, length-take, rules}
+use Rattle.std.proofs.Common.{◌≡◌, ◌+◌, ◌-◌, ◌*◌, ◌≤◌, length, drop, ap, ◌∙◌, arith, length-take}
 use Rattle.groups.specs.Rows.{groups_for}
-use Rattle.load_column.proofs.spread.Spreading.{Spreading, length-cleared, all_clear, spread_none, place_inside, spread_more, spread_all, spread_over}
+use Rattle.load_column.proofs.spread.Spreading.{length-cleared, all_clear, spread_none, place_inside, spread_more, spread_all, spread_over}
 use Rattle.load_column.proofs.spread.spread.Goals as goal
 
 pub overflow_mul-values : goal.overflow_mul-values

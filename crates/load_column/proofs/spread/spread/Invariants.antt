@@ -1,7 +1,6 @@
 -- `spread` meets its contract: the blocks are cleared, and then its loop keeps `Spreading`. Assumes nothing.
-use Rattle.std.proofs.Common.{◌≡◌, ◌+◌, ◌-◌, ◌*◌, ◌≤◌, length, drop, ap, ◌∙◌, arith, length-take, rules}
-use Rattle.groups.specs.Rows.{groups_for}
-use Rattle.load_column.proofs.spread.Spreading.{Spreading, length-cleared, all_clear, spread_none, place_inside, spread_more, spread_all, spread_over}
+use Rattle.std.proofs.Common.{◌-◌, length}
+use Rattle.load_column.proofs.spread.Spreading.{Spreading}
 use Rattle.load_column.proofs.spread.spread.Given as goal
 
 abbrev pub invariant-loop-at : goal.invariant-loop-at

@@ -1,5 +1,5 @@
 -- `spread_group` meets its contract: the groups of one byte, or those gathered aside, are put. Assumes nothing.
-use Rattle.std.proofs.Common.{◌≡◌, true, sym, ◌∙◌, arith, rules}
+use Rattle.std.proofs.Common.{◌≡◌, true, sym, ◌∙◌, arith}
 use Rattle.groups.proofs.Groups.{get_or-zeros}
 use Rattle.load_column.specs.Inner.{one_byte}
 use Rattle.load_column.proofs.spread.Alike.{whole_length, whole_group}

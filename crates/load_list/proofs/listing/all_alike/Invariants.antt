@@ -1,12 +1,10 @@
 -- `all_alike` meets its contract: the groups are alike where no bit differs so far and the groups still to come are alike. Assumes nothing.
-use mathlib.Core.Path.{◌≡◌, refl, ◌∙◌, sym}
+use mathlib.Core.Path.{◌≡◌}
 use mathlib.Core.Bool.{◌&&◌}
 use Prim.Native.Nat.{◌-◌, ◌≤◌}
-use native.Mathlib.Omega.{arith}
 use lib.Dec.{eqb}
 use lib.ListN.{drop}
 use Rattle.load_list.specs.Inner.{all_alike}
-use Rattle.load_list.proofs.listing.Alike.{differs_more, differs_all}
 use Rattle.load_list.proofs.listing.all_alike.Given as goal
 
 abbrev pub invariant-loop-i : goal.invariant-loop-i

@@ -1,11 +1,8 @@
 -- `list_into` takes in eight groups at a time, those left one by one, and by a last step those behind. Assumes nothing.
-use mathlib.Core.Path.{◌∙◌, ap}
-use Prim.Native.Nat.{◌+◌, ◌-◌, ◌≤◌}
-use native.Mathlib.Omega.{arith}
-use lib.ListN.{length, take, drop, length-take, length-drop, length-replicate}
-use lib.Seq.{length-sets, take-length}
-use Rattle.load_list.specs.Inner.{Fits, Follows}
-use Rattle.load_list.proofs.listing.Loop.{follows_none, length_left, part-fits, part_follows, none, groups_fit, zeros_fit, last_fits, ends}
+use Prim.Native.Nat.{◌-◌, ◌≤◌}
+use lib.ListN.{length, take}
+use Rattle.load_list.specs.Inner.{Follows}
+use Rattle.load_list.proofs.listing.Loop.{none}
 use Rattle.load_list.proofs.listing.list_into.Given as goal
 
 abbrev pub invariant-loop-i : goal.invariant-loop-i

@@ -1,12 +1,7 @@
 -- `none_full` meets its contract: none is all ones where none was so far and none of those to come is. Assumes nothing.
-use mathlib.Core.Path.{◌≡◌, refl, ◌∙◌, sym}
-use mathlib.Core.Bool.{◌&&◌}
+use mathlib.Core.Path.{refl, ◌∙◌, sym}
 use mathlib.Core.Logic.{⊎_elim}
-use Prim.Native.Nat.{◌-◌, ◌≤◌}
 use native.Mathlib.Omega.{arith}
-use lib.Dec.{eqb}
-use lib.ListN.{drop}
-use Rattle.load_list.specs.Inner.{none_full}
 use Rattle.load_list.proofs.listing.Sparse.{full-more, full_all}
 use Rattle.load_list.proofs.listing.none_full.Goals as goal
 

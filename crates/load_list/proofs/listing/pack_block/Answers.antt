@@ -4,7 +4,6 @@ use mathlib.Core.List.{List, ◌++◌}
 use Prim.Native.Nat.{ℕ, ◌≤◌}
 use native.Mathlib.Omega.{arith}
 use lib.ListN.{length, drop, replicate}
-use borrow.Author.Rules.{rules}
 use Rattle.groups.proofs.Groups.{get_or-zeros}
 use Rattle.blocks.specs.Sizes.{value_room}
 use Rattle.blocks.proofs.EmptyUpdates.{emptied-written}

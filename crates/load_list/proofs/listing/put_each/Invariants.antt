@@ -1,10 +1,7 @@
 -- `put_each` meets its contract: after so many turns as many groups are taken in. Assumes nothing.
-use Prim.Native.Nat.{◌+◌, ◌-◌, ◌≤◌}
-use native.Mathlib.Omega.{arith}
+use Prim.Native.Nat.{◌-◌, ◌≤◌}
 use lib.ListN.{length, take}
-use lib.Seq.{take_all}
 use Rattle.load_list.specs.Inner.{Follows}
-use Rattle.load_list.proofs.listing.Loop.{follows_none, length_left, part-fits, part_follows, one_group}
 use Rattle.load_list.proofs.listing.put_each.Given as goal
 
 abbrev pub invariant-loop-i : goal.invariant-loop-i

@@ -1,8 +1,6 @@
 -- `put_eight` meets its contract: each of its ways takes the groups in. Assumes nothing.
 use mathlib.Core.Path.{◌≡◌, sym, ◌∙◌}
 use native.Mathlib.Omega.{arith}
-use borrow.Author.Rules.{rules}
-use borrow.Author.Tests.{not-false}
 use Rattle.load_list.specs.Inner.{zeros_pending}
 use Rattle.load_list.proofs.listing.Sparse.{zeros-run}
 use Rattle.load_list.proofs.listing.put_eight.Goals as goal

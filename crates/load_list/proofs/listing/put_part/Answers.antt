@@ -1,7 +1,6 @@
 -- `put_part` meets its contract: eight groups make the run longer, or each of them is taken in. Assumes nothing.
 use mathlib.Core.Path.{sym, ◌∙◌}
 use Prim.Native.Nat.{◌*◌}
-use borrow.Author.Rules.{rules}
 use Rattle.words.specs.Words.{all_ones}
 use Rattle.load_list.proofs.listing.Alike.{alike-replicate}
 use Rattle.load_list.proofs.listing.Loop.{follows_run}

@@ -2,7 +2,6 @@
 use native.Mathlib.Omega.{arith}
 use lib.ListN.{length-set}
 use Rattle.load_list.proofs.listing.Sparse.{Counted, sparse_counted}
-use borrow.Author.Rules.{rules}
 use Rattle.load_list.proofs.listing.put_sparse.Goals as goal
 
 pub overflow_mul-next : goal.overflow_mul-next

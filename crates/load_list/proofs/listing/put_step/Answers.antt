@@ -1,7 +1,6 @@
 -- `put_step` meets its contract: any step that takes the group in fits. Assumes nothing.
 use mathlib.Core.Path.{refl}
 use native.Mathlib.Omega.{arith}
-use borrow.Author.Rules.{rules}
 use Rattle.load_list.proofs.listing.Loop.{step_fits, follows_step}
 use Rattle.load_list.proofs.listing.put_step.Goals as goal
 

@@ -1,7 +1,6 @@
 -- `step_zeros` meets its contract: no group leaves the pending run as it is, and some are one step. Assumes nothing.
 use mathlib.Core.Path.{refl}
 use native.Mathlib.Omega.{arith}
-use borrow.Author.Rules.{rules}
 use Rattle.load_list.proofs.listing.step_zeros.Goals as goal
 
 pub returns-then-count-eq0 : goal.returns-then-count-eq0

@@ -2,7 +2,6 @@
 use mathlib.Core.Path.{refl}
 use borrow.Author.Tests.{eq-eqb}
 use Rattle.load_list.proofs.listing.Sparse.{run_ended}
-use borrow.Author.Rules.{rules}
 use Rattle.load_list.proofs.listing.zeros_after.Goals as goal
 
 pub returns-then-group-eq0 : goal.returns-then-group-eq0

@@ -1,6 +1,5 @@
 -- `ask` meets its contract: a stop stays, and a check that applies stops what is ready. Assumes nothing.
 use mathlib.Core.Path.{refl}
-use borrow.Author.Rules.{rules}
 use Rattle.memory.proofs.entry.ask.Goals as goal
 
 pub returns-then-applies : goal.returns-then-applies

@@ -2,7 +2,6 @@
 use mathlib.Core.Path.{◌≡◌}
 use mathlib.Core.Bool.{true}
 use native.Mathlib.Omega.{arith}
-use borrow.Author.Rules.{rules}
 use Rattle.blocks.proofs.SizeLaws.{blocks_bound, fences_bound}
 use Rattle.memory.specs.Memory.{within_limits}
 use Rattle.memory.specs.declared.header.Header.{Header}

@@ -1,5 +1,4 @@
 -- `enter_insert` meets its contract: FULL behind the checks of a value. Assumes nothing.
-use borrow.Author.Rules.{rules}
 use Rattle.memory.proofs.entry.enter_insert.Goals as goal
 
 pub returns : goal.returns

@@ -1,5 +1,4 @@
 -- `enter_row` meets its contract: NO_ROW behind the checks of the index. Assumes nothing.
-use borrow.Author.Rules.{rules}
 use Rattle.memory.proofs.entry.enter_row.Goals as goal
 
 pub returns : goal.returns

@@ -1,5 +1,4 @@
 -- `enter_update` meets its contract: NO_ROW behind the checks of a value. Assumes nothing.
-use borrow.Author.Rules.{rules}
 use Rattle.memory.proofs.entry.enter_update.Goals as goal
 
 pub returns : goal.returns

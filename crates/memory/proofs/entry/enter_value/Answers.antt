@@ -1,5 +1,4 @@
 -- `enter_value` meets its contract: BAD_VALUE behind the checks of the index. Assumes nothing.
-use borrow.Author.Rules.{rules}
 use Rattle.memory.proofs.entry.enter_value.Goals as goal
 
 pub returns : goal.returns

@@ -1,6 +1,5 @@
 -- `header_holds` meets its contract: the four limits, then n at most R. Assumes nothing.
 use mathlib.Core.Path.{refl}
-use borrow.Author.Rules.{rules}
 use Rattle.memory.specs.Memory.{within_limits}
 use Rattle.memory.proofs.entry.Exits.{failed, held}
 use Rattle.memory.proofs.entry.header_holds.Goals as goal

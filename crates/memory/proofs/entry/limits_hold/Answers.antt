@@ -1,6 +1,5 @@
 -- `limits_hold` meets its contract: each exit is a test, after those that held. Assumes nothing.
 use mathlib.Core.Path.{refl}
-use borrow.Author.Rules.{rules}
 use Rattle.memory.specs.Memory.{limits}
 use Rattle.memory.proofs.entry.Exits.{failed, held}
 use Rattle.memory.proofs.entry.limits_hold.Goals as goal

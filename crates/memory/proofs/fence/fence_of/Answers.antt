@@ -2,7 +2,6 @@
 use Prim.Native.Nat.{◌/◌}
 use native.Mathlib.Nat.{div-le_self}
 use native.Mathlib.Omega.{arith}
-use borrow.Author.Rules.{rules}
 use Rattle.memory.proofs.fence.fence_of.Goals as goal
 
 pub overflow_cast-result : goal.overflow_cast-result

@@ -1,9 +1,8 @@
 -- `find_fence` meets its contract: the search goes on from the fence before. Assumes nothing.
-use mathlib.Core.Path.{◌≡◌, ap, sym, ◌∙◌}
+use mathlib.Core.Path.{ap, ◌∙◌}
 use mathlib.Core.List.{List}
 use Prim.Native.Nat.{ℕ, ◌*◌, ◌≤◌}
 use native.Mathlib.Omega.{arith}
-use borrow.Author.Rules.{rules}
 use Rattle.blocks.specs.Block.{value_list}
 use Rattle.blocks.proofs.SizeLaws.{few-groups, few_fences, fence_group}
 use Rattle.block_read.specs.Fences.{locate_from}

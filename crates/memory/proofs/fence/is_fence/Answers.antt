@@ -1,6 +1,5 @@
 -- `is_fence` meets its contract: each exit is a test of the two numbers. Assumes nothing.
 use mathlib.Core.Path.{refl}
-use borrow.Author.Rules.{rules}
 use borrow.Author.Tests.{eq-eqb, ne_eqb}
 use Rattle.memory.proofs.fence.is_fence.Goals as goal
 

@@ -7,7 +7,6 @@ use Rattle.blocks.specs.Sizes.{block_size}
 use Rattle.blocks.proofs.Parts.{part_slice}
 use Rattle.memory.specs.Memory.{block_at}
 use Rattle.memory.proofs.Places.{inside_words}
-use borrow.Author.Rules.{rules}
 use Rattle.memory.proofs.place.block_of.Goals as goal
 
 pub overflow_mul-at : goal.overflow_mul-at

@@ -1,6 +1,5 @@
 -- `legibility_of` meets its contract: each exit is a test of the row. Assumes nothing.
 use mathlib.Core.Path.{refl, sym, ◌∙◌}
-use borrow.Author.Rules.{rules}
 use Rattle.memory.specs.Inner.{legibility_of}
 use Rattle.memory.proofs.row.legibility_of.Goals as goal
 

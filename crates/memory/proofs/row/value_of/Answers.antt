@@ -1,6 +1,5 @@
 -- `value_of` meets its contract: each exit is a test of the row. Assumes nothing.
 use mathlib.Core.Path.{refl, sym, ◌∙◌}
-use borrow.Author.Rules.{rules}
 use borrow.Author.Tests.{eq-eqb, ne_eqb}
 use Rattle.memory.specs.Reading.{value_of}
 use Rattle.memory.proofs.row.value_of.Goals as goal

@@ -1,6 +1,5 @@
 -- `answer_numbers` meets its contract in either case. Assumes nothing.
 use mathlib.Core.Path.{refl}
-use borrow.Author.Rules.{rules}
 use Rattle.upbit.proofs.numbers.answer_numbers.Goals as goal
 
 pub returns-in-Done : goal.returns-in-Done

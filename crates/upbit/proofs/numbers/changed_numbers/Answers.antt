@@ -1,6 +1,5 @@
 -- `changed_numbers` meets its contract: the header as it is, beside the numbers of the answer. Assumes nothing.
 use mathlib.Core.Path.{refl}
-use borrow.Author.Rules.{rules}
 use Rattle.upbit.proofs.numbers.changed_numbers.Goals as goal
 
 pub returns : goal.returns

@@ -1,6 +1,5 @@
 -- `row_numbers` meets its contract in each of the three cases. Assumes nothing.
 use mathlib.Core.Path.{refl}
-use borrow.Author.Rules.{rules}
 use Rattle.upbit.proofs.numbers.row_numbers.Goals as goal
 
 pub returns-in-Live : goal.returns-in-Live

@@ -1,5 +1,4 @@
 -- `upbit_pack` gives the numbers of what Pack answers. Assumes nothing.
-use borrow.Author.Rules.{rules}
 use Rattle.upbit.proofs.Telling.{answer_told}
 use Rattle.upbit.proofs.packing.upbit_pack.Goals as goal
 

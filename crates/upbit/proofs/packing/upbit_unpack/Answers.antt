@@ -1,5 +1,4 @@
 -- `upbit_unpack` gives the numbers of what Unpack answers. Assumes nothing.
-use borrow.Author.Rules.{rules}
 use Rattle.upbit.proofs.Telling.{answer_told}
 use Rattle.upbit.proofs.packing.upbit_unpack.Goals as goal
 

@@ -1,6 +1,5 @@
 -- `upbit_room_for` meets its contract: the sizes are worked out for numbers that are within their limits. Assumes nothing.
 use native.Mathlib.Omega.{arith}
-use borrow.Author.Rules.{rules}
 use Rattle.blocks.proofs.SizeLaws.{blocks_bound, fences_bound}
 use Rattle.memory.specs.Entry.{header_for}
 use Rattle.memory.proofs.Headers.{Within}
