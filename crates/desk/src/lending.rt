@@ -175,6 +175,20 @@ fn ask_value(
     say_value(screen, found)
 }
 
+// Asks for the rows of a value, in what is lent of a list, and answers them.
+fn query_into(
+    screen: Stdout,
+    words: &[u32],
+    fences: &[Fence],
+    list: &mut [u32],
+    lent: Lent,
+    value: u32,
+) -> io::Result<()> {
+    let room = smaller(lent.room, list.len());
+    let answer = query(words, fences, &mut list[..room], lent.header, value);
+    say_list(screen, list, answer)
+}
+
 // `query v`.
 fn ask_query(
     screen: Stdout,
@@ -184,17 +198,26 @@ fn ask_query(
     value: u32,
 ) -> io::Result<()> {
     let mut list = [0u32; ROOM];
-    let room = smaller(lent.room, list.len());
-    let answer = query(words, fences, &mut list[..room], lent.header, value);
-    say_list(screen, &list, answer)
+    query_into(screen, words, fences, &mut list, lent, value)
+}
+
+// Dumps the rows into what is lent of a buffer, and answers them.
+fn dump_into(
+    screen: Stdout,
+    words: &[u32],
+    fences: &[Fence],
+    rows: &mut [u8],
+    lent: Lent,
+) -> io::Result<()> {
+    let room = smaller(lent.room, rows.len());
+    let answer = dump(words, fences, &mut rows[..room], lent.header);
+    say_dump(screen, rows, answer)
 }
 
 // `dump`.
 fn ask_dump(screen: Stdout, words: &[u32], fences: &[Fence], lent: Lent) -> io::Result<()> {
     let mut rows = [0u8; ROOM];
-    let room = smaller(lent.room, rows.len());
-    let answer = dump(words, fences, &mut rows[..room], lent.header);
-    say_dump(screen, &rows, answer)
+    dump_into(screen, words, fences, &mut rows, lent)
 }
 
 // `audit`.
