@@ -8,16 +8,22 @@ mod serve;
 use block_read::fence::Fence;
 use desk_orders::lent::{FENCES, WORDS};
 use serve::serve;
+use std::io::{self, Stdin, Stdout};
 
 // The console's fences.
-fn with_fences(words: &mut [u32], input: &mut [u8]) {
+fn with_fences(
+    keyboard: Stdin,
+    screen: Stdout,
+    words: &mut [u32],
+    input: &mut [u8],
+) -> io::Result<()> {
     let mut fences = [Fence { place: 0, first: 0 }; FENCES];
-    serve(words, &mut fences, input);
+    serve(keyboard, screen, words, &mut fences, input)
 }
 
 // The console's words, and its input: a line has up to 600,000 bytes, and a line end.
-fn main() {
+fn main(rt: HostRuntime) -> io::Result<()> {
     let mut words = [0u32; WORDS];
     let mut input = [0u8; 600001];
-    with_fences(&mut words, &mut input);
+    with_fences(rt.stdin(), rt.stdout(), &mut words, &mut input)
 }

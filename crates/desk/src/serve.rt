@@ -6,6 +6,7 @@ use desk_orders::records::obey_records;
 use desk_orders::word_orders::obey_other;
 use lines::input::{Waiting, has_ended, look_on, nothing_waiting};
 use lines::orders::{Request, next_request};
+use std::io::{self, Stdin, Stdout};
 
 // What the console keeps from one turn to the next.
 #[derive(Clone, Copy)]
@@ -33,50 +34,58 @@ fn after_turn(waiting: Waiting, lent: Lent) -> Console {
 
 // Answers the line that was found, if one was.
 fn answer(
+    screen: Stdout,
     words: &mut [u32],
     fences: &mut [Fence],
     input: &[u8],
     waiting: Waiting,
     lent: Lent,
-) -> Lent {
+) -> io::Result<Lent> {
     match next_request(input, waiting) {
-        Request::Loads(order) => obey_load(words, fences, input, waiting, lent, order),
-        Request::Changes(order) => obey_change(words, fences, lent, order),
+        Request::Loads(order) => obey_load(screen, words, fences, input, waiting, lent, order),
+        Request::Changes(order) => obey_change(screen, words, fences, lent, order),
         Request::Asks(order) => {
-            obey_question(words, fences, lent, order);
-            lent
+            obey_question(screen, words, fences, lent, order)?;
+            Ok(lent)
         }
         Request::Records(order) => {
-            obey_records(fences, order);
-            lent
+            obey_records(screen, fences, order)?;
+            Ok(lent)
         }
-        Request::Other(order) => obey_other(words, input, waiting, lent, order),
-        Request::Silent => lent,
+        Request::Other(order) => obey_other(screen, words, input, waiting, lent, order),
+        Request::Silent => Ok(lent),
     }
 }
 
 // One look at the input, and the answer to the line that it finds.
 fn take_turn(
+    keyboard: Stdin,
+    screen: Stdout,
     words: &mut [u32],
     fences: &mut [Fence],
     input: &mut [u8],
     console: Console,
-) -> Console {
-    let waiting = look_on(input, console.waiting);
-    let lent = answer(words, fences, input, waiting, console.lent);
-    after_turn(waiting, lent)
+) -> io::Result<Console> {
+    let waiting = look_on(keyboard, input, console.waiting)?;
+    let lent = answer(screen, words, fences, input, waiting, console.lent)?;
+    Ok(after_turn(waiting, lent))
 }
 
 // Reads and answers up to the end of the input. A proved loop has to end, and nothing says that the input
 // does: the turns are counted up to a number that no run reaches.
-pub fn serve(words: &mut [u32], fences: &mut [Fence], input: &mut [u8]) {
+pub fn serve(
+    keyboard: Stdin,
+    screen: Stdout,
+    words: &mut [u32],
+    fences: &mut [Fence],
+    input: &mut [u8],
+) -> io::Result<()> {
     let mut console = begin();
-    let mut turn: u64 = 0;
-    while turn < 18446744073709551615 {
-        console = take_turn(words, fences, input, console);
+    for _ in 0..u64::MAX {
+        console = take_turn(keyboard, screen, words, fences, input, console)?;
         if console.ended {
-            return;
+            break;
         }
-        turn = turn + 1;
     }
+    Ok(())
 }

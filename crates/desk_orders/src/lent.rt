@@ -3,6 +3,7 @@ use answers::Answer;
 use lines::orders::Order;
 use lines::say::{say_range, say_zero};
 use memory::header::{Changed, Header};
+use std::io::{self, Stdout};
 
 // The longest output that is lent: a word or a byte for each row.
 pub const ROOM: usize = 126976;
@@ -57,45 +58,45 @@ pub fn after(lent: Lent, changed: Changed) -> Lent {
 }
 
 // `room K`.
-pub fn set_room(lent: Lent, room: usize) -> Lent {
+pub fn set_room(screen: Stdout, lent: Lent, room: usize) -> io::Result<Lent> {
     if ROOM < room {
-        say_range();
-        return lent;
+        say_range(screen)?;
+        return Ok(lent);
     }
-    say_zero();
+    say_zero(screen)?;
     let header = lent.header;
-    Lent {
+    Ok(Lent {
         header: header,
         room: room,
         words: lent.words,
         fences: lent.fences,
-    }
+    })
 }
 
 // `lend W F`.
-pub fn set_lent(lent: Lent, words: usize, fences: usize) -> Lent {
+pub fn set_lent(screen: Stdout, lent: Lent, words: usize, fences: usize) -> io::Result<Lent> {
     if WORDS < words {
-        say_range();
-        return lent;
+        say_range(screen)?;
+        return Ok(lent);
     }
     if FENCES < fences {
-        say_range();
-        return lent;
+        say_range(screen)?;
+        return Ok(lent);
     }
-    say_zero();
+    say_zero(screen)?;
     let header = lent.header;
-    Lent {
+    Ok(Lent {
         header: header,
         room: lent.room,
         words: words,
         fences: fences,
-    }
+    })
 }
 
 // `header R n d T G`.
-pub fn set_header(lent: Lent, order: Order) -> Lent {
-    say_zero();
-    with_header(
+pub fn set_header(screen: Stdout, lent: Lent, order: Order) -> io::Result<Lent> {
+    say_zero(screen)?;
+    Ok(with_header(
         lent,
         Header {
             rows: order.first,
@@ -104,5 +105,5 @@ pub fn set_header(lent: Lent, order: Order) -> Lent {
             threshold: order.fourth,
             spacing: order.fifth,
         },
-    )
+    ))
 }

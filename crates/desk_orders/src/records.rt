@@ -5,6 +5,7 @@ use lines::orders::Order;
 use lines::put::{begin_answer, end_answer, put_record};
 use lines::say::{say_range, say_zero};
 use lines::verbs::Verb;
+use std::io::{self, Stdout};
 
 // What is to be done with the records.
 #[derive(Clone, Copy)]
@@ -33,34 +34,32 @@ fn task_of(records: usize, order: Order) -> Task {
 }
 
 // `pokefence I PLACE FIRST`.
-fn poke_fence(fences: &mut [Fence], order: Order) {
+fn poke_fence(screen: Stdout, fences: &mut [Fence], order: Order) -> io::Result<()> {
     let at = order.first as usize;
     if at < fences.len() {
         put_fence(fences, at, order.second, order.third);
-        say_zero();
+        say_zero(screen)
     } else {
-        say_range();
+        say_range(screen)
     }
 }
 
 // `peekfence I K`.
-fn peek_fences(fences: &[Fence], from: u32, count: u32) {
+fn peek_fences(screen: Stdout, fences: &[Fence], from: u32, count: u32) -> io::Result<()> {
     let mut out = [0u8; 4096];
-    let mut end = begin_answer(&mut out);
-    let mut j: u32 = 0;
-    while j < count {
+    let mut end = begin_answer(screen, &mut out)?;
+    for j in 0..count {
         let fence = fence_at(fences, from as usize + j as usize);
-        end = put_record(&mut out, end, fence.place, fence.first);
-        j = j + 1;
+        end = put_record(screen, &mut out, end, fence.place, fence.first)?;
     }
-    end_answer(&mut out, end);
+    end_answer(screen, &mut out, end)
 }
 
 // The commands over fence records.
-pub fn obey_records(fences: &mut [Fence], order: Order) {
+pub fn obey_records(screen: Stdout, fences: &mut [Fence], order: Order) -> io::Result<()> {
     match task_of(fences.len(), order) {
-        Task::Sets => poke_fence(fences, order),
-        Task::Shows => peek_fences(fences, order.first, order.second),
-        Task::Outside => say_range(),
+        Task::Sets => poke_fence(screen, fences, order),
+        Task::Shows => peek_fences(screen, fences, order.first, order.second),
+        Task::Outside => say_range(screen),
     }
 }

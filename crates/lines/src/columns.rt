@@ -13,8 +13,7 @@ pub enum Counted {
 // Puts the bytes that a line has from a place on into a buffer.
 fn bytes_in(line: &[u8], at: usize, bytes: &mut [u8]) -> Counted {
     let mut rest = at;
-    let mut i: usize = 0;
-    while i < bytes.len() {
+    for (i, byte) in bytes.iter_mut().enumerate() {
         if is_over(line, rest) {
             return Counted::Count(i);
         }
@@ -24,9 +23,8 @@ fn bytes_in(line: &[u8], at: usize, bytes: &mut [u8]) -> Counted {
         if 255 < number {
             return Counted::Wrong;
         }
-        bytes[i] = number as u8;
+        *byte = number as u8;
         rest = next;
-        i += 1;
     }
     Counted::Wrong
 }
@@ -34,17 +32,15 @@ fn bytes_in(line: &[u8], at: usize, bytes: &mut [u8]) -> Counted {
 // Puts the words that a line has from a place on into a buffer.
 pub fn words_in(line: &[u8], at: usize, list: &mut [u32]) -> Counted {
     let mut rest = at;
-    let mut i: usize = 0;
-    while i < list.len() {
+    for (i, place) in list.iter_mut().enumerate() {
         if is_over(line, rest) {
             return Counted::Count(i);
         }
         let Taken::Number(word, next) = take_word(line, rest) else {
             return Counted::Wrong;
         };
-        list[i] = word;
+        *place = word;
         rest = next;
-        i += 1;
     }
     Counted::Wrong
 }
@@ -54,16 +50,14 @@ fn digits_of(digits: &[u8], rows: &mut [u8]) -> Counted {
     if rows.len() < digits.len() {
         return Counted::Wrong;
     }
-    let mut i: usize = 0;
-    while i < digits.len() {
-        let digit = digit_of(digits[i]);
+    for (i, byte) in digits.iter().enumerate() {
+        let digit = digit_of(*byte);
         if 10 <= digit {
             return Counted::Wrong;
         }
         rows[i] = digit;
-        i += 1;
     }
-    Counted::Count(i)
+    Counted::Count(digits.len())
 }
 
 // Puts the digits that are the last field of a line into a buffer; none where no field is left.

@@ -3,6 +3,7 @@ ghost use Rattle.std.specs.Prelude.{length};
 ghost use Rattle.fields.specs.Places.{Between};
 
 use fields::places::{Field, find};
+use std::io::{self, Read, Stdin};
 
 // What was found at the last look: a line, a line that the buffer does not hold, nothing as yet, or the
 // end of the input.
@@ -83,40 +84,32 @@ fn move_front(input: &mut [u8], from: usize, to: usize) -> usize {
         return to;
     }
     let count = to - from;
-    let mut i: usize = 0;
-    while i < count {
+    for i in 0..count {
         input[i] = input[from + i];
-        i += 1;
     }
     count
 }
 
 // Reads once, after the first `end` bytes; answers how many bytes there are then.
-fn read_after(input: &mut [u8], end: usize) -> usize {
+fn read_after(mut keyboard: Stdin, input: &mut [u8], end: usize) -> io::Result<usize> {
     if input.len() <= end {
-        return end;
+        return Ok(end);
     }
-    let free = input.len() - end;
-    let part = &mut input[end..];
-    let got = libc::read(libc::STDIN_FILENO, part);
-    let count = io::count(got, part);
-    if free < count {
-        return end;
-    }
-    end + count
+    let count = keyboard.read(&mut input[end..])?;
+    Ok(end + count)
 }
 
 // Reads more, of which nothing is looked at yet. A line that fills the whole buffer is passed over.
-fn read_more(input: &mut [u8], waiting: Waiting) -> Waiting {
+fn read_more(keyboard: Stdin, input: &mut [u8], waiting: Waiting) -> io::Result<Waiting> {
     let kept = move_front(input, waiting.next, waiting.end);
     if input.len() <= kept {
-        return no_line(Found::Nothing, 0, 0, true);
+        return Ok(no_line(Found::Nothing, 0, 0, true));
     }
-    let end = read_after(input, kept);
+    let end = read_after(keyboard, input, kept)?;
     if kept < end {
-        return no_line(Found::Nothing, kept, end, waiting.skips);
+        return Ok(no_line(Found::Nothing, kept, end, waiting.skips));
     }
-    last_line(waiting, kept)
+    Ok(last_line(waiting, kept))
 }
 
 // The input has ended: what waits is the last line, which has no line end.
@@ -130,15 +123,15 @@ fn last_line(waiting: Waiting, kept: usize) -> Waiting {
 }
 
 // Goes on to the next line, if it is read already; reads once if it is not.
-pub fn look_on(input: &mut [u8], waiting: Waiting) -> Waiting {
+pub fn look_on(keyboard: Stdin, input: &mut [u8], waiting: Waiting) -> io::Result<Waiting> {
     let end = waiting.end;
     if waiting.seen < end {
         let stop = find(input, waiting.seen, end, b'\n', true);
         if stop < end {
-            return line_found(waiting, waiting.next, stop, stop + 1, end);
+            return Ok(line_found(waiting, waiting.next, stop, stop + 1, end));
         }
     }
-    read_more(input, waiting)
+    read_more(keyboard, input, waiting)
 }
 
 // Where the line that was found stands in the buffer.

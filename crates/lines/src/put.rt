@@ -1,78 +1,85 @@
 // What an answer is made of. It is put into a buffer from a place on, and each function answers the place
 // after what it has put; a buffer that is full is written out first.
 use digits::writing::put_digits;
+use itoa::Buffer;
+use std::io::{self, Stdout, Write};
 
 pub fn wide(word: u32) -> u64 {
     word as u64
 }
 
 // Writes out what the buffer holds.
-fn write_out(out: &[u8], at: usize) {
+fn write_out(mut screen: Stdout, out: &[u8], at: usize) -> io::Result<()> {
     if at <= out.len() {
-        io::write_all(libc::STDOUT_FILENO, &out[..at]);
+        screen.write_all(&out[..at])?;
     }
+    Ok(())
 }
 
 // Puts one byte.
-fn put_byte(out: &mut [u8], at: usize, byte: u8) -> usize {
+fn put_byte(screen: Stdout, out: &mut [u8], at: usize, byte: u8) -> io::Result<usize> {
     if at < out.len() {
         out[at] = byte;
-        return at + 1;
+        return Ok(at + 1);
     }
-    write_out(out, out.len());
+    write_out(screen, out, out.len())?;
     if out.len() == 0 {
-        return 0;
+        return Ok(0);
     }
     out[0] = byte;
-    1
+    Ok(1)
 }
 
 // Puts a text.
-pub fn put_text(out: &mut [u8], at: usize, text: &[u8]) -> usize {
+pub fn put_text(screen: Stdout, out: &mut [u8], at: usize, text: &[u8]) -> io::Result<usize> {
     let mut to = at;
-    let mut i: usize = 0;
-    while i < text.len() {
-        to = put_byte(out, to, text[i]);
-        i += 1;
+    for byte in text {
+        to = put_byte(screen, out, to, *byte)?;
     }
-    to
+    Ok(to)
 }
 
 // Puts a number in decimal digits.
-pub fn put_number(out: &mut [u8], at: usize, number: u64) -> usize {
-    let mut digits = [0u8; 20];
-    let count = io::decimal(number, &mut digits);
-    put_text(out, at, &digits[..count])
+pub fn put_number(screen: Stdout, out: &mut [u8], at: usize, number: u64) -> io::Result<usize> {
+    let mut digits = Buffer::new();
+    put_text(screen, out, at, digits.format(number).as_bytes())
 }
 
 // Puts a word in 8 hexadecimal digits.
-fn put_word(out: &mut [u8], at: usize, word: u32) -> usize {
+fn put_word(screen: Stdout, out: &mut [u8], at: usize, word: u32) -> io::Result<usize> {
     let mut digits = [0u8; 8];
     put_digits(&mut digits, 0, word, 8);
-    put_text(out, at, &digits)
+    put_text(screen, out, at, &digits)
 }
 
 // Puts a fence record, `PLACE:FIRST` after a space.
-pub fn put_record(out: &mut [u8], at: usize, place: u32, first: u32) -> usize {
-    let begun = put_byte(out, at, b' ');
-    let placed = put_number(out, begun, wide(place));
-    let parted = put_byte(out, placed, b':');
-    put_number(out, parted, wide(first))
+pub fn put_record(
+    screen: Stdout,
+    out: &mut [u8],
+    at: usize,
+    place: u32,
+    first: u32,
+) -> io::Result<usize> {
+    let begun = put_byte(screen, out, at, b' ')?;
+    let placed = put_number(screen, out, begun, wide(place))?;
+    let parted = put_byte(screen, out, placed, b':')?;
+    put_number(screen, out, parted, wide(first))
 }
 
 // Puts the first words of a list, each after a space.
-pub fn put_words(out: &mut [u8], at: usize, list: &[u32], count: usize) -> usize {
+pub fn put_words(
+    screen: Stdout,
+    out: &mut [u8],
+    at: usize,
+    list: &[u32],
+    count: usize,
+) -> io::Result<usize> {
     let mut to = at;
-    let mut i: usize = 0;
-    while i < count {
-        if list.len() <= i {
-            return to;
-        }
-        to = put_byte(out, to, b' ');
-        to = put_word(out, to, list[i]);
-        i += 1;
+    for word in list.iter().take(count) {
+        to = put_byte(screen, out, to, b' ')?;
+        to = put_word(screen, out, to, *word)?;
     }
-    to
+    Ok(to)
 }
 
 // Which rows are put: those of a dump, or those of an unpack.
@@ -83,50 +90,52 @@ pub enum Rows {
 }
 
 // Puts one row of a dump after a space: its value, or `-` where it is deleted.
-fn put_value(out: &mut [u8], at: usize, byte: u8) -> usize {
-    let begun = put_byte(out, at, b' ');
+fn put_value(screen: Stdout, out: &mut [u8], at: usize, byte: u8) -> io::Result<usize> {
+    let begun = put_byte(screen, out, at, b' ')?;
     if byte == 255 {
-        return put_byte(out, begun, b'-');
+        return put_byte(screen, out, begun, b'-');
     }
-    put_number(out, begun, byte as u64)
+    put_number(screen, out, begun, byte as u64)
 }
 
 // Puts one row of an unpack: its digit.
-fn put_bit(out: &mut [u8], at: usize, byte: u8) -> usize {
+fn put_bit(screen: Stdout, out: &mut [u8], at: usize, byte: u8) -> io::Result<usize> {
     if byte == 0 {
-        return put_byte(out, at, b'0');
+        return put_byte(screen, out, at, b'0');
     }
-    put_byte(out, at, b'1')
+    put_byte(screen, out, at, b'1')
 }
 
-fn put_row(out: &mut [u8], at: usize, byte: u8, kind: Rows) -> usize {
+fn put_row(screen: Stdout, out: &mut [u8], at: usize, byte: u8, kind: Rows) -> io::Result<usize> {
     match kind {
-        Rows::Dumped => put_value(out, at, byte),
-        Rows::Unpacked => put_bit(out, at, byte),
+        Rows::Dumped => put_value(screen, out, at, byte),
+        Rows::Unpacked => put_bit(screen, out, at, byte),
     }
 }
 
 // Puts the first rows.
-pub fn put_rows(out: &mut [u8], at: usize, rows: &[u8], count: usize, kind: Rows) -> usize {
+pub fn put_rows(
+    screen: Stdout,
+    out: &mut [u8],
+    at: usize,
+    rows: &[u8],
+    count: usize,
+    kind: Rows,
+) -> io::Result<usize> {
     let mut to = at;
-    let mut i: usize = 0;
-    while i < count {
-        if rows.len() <= i {
-            return to;
-        }
-        to = put_row(out, to, rows[i], kind);
-        i += 1;
+    for row in rows.iter().take(count) {
+        to = put_row(screen, out, to, *row, kind)?;
     }
-    to
+    Ok(to)
 }
 
 // Begins an answer of what is done.
-pub fn begin_answer(out: &mut [u8]) -> usize {
-    put_byte(out, 0, b'0')
+pub fn begin_answer(screen: Stdout, out: &mut [u8]) -> io::Result<usize> {
+    put_byte(screen, out, 0, b'0')
 }
 
 // Ends an answer, and writes it out.
-pub fn end_answer(out: &mut [u8], at: usize) {
-    let end = put_byte(out, at, b'\n');
-    write_out(out, end);
+pub fn end_answer(screen: Stdout, out: &mut [u8], at: usize) -> io::Result<()> {
+    let end = put_byte(screen, out, at, b'\n')?;
+    write_out(screen, out, end)
 }

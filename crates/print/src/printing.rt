@@ -62,11 +62,9 @@ fn put_values(
         × (out.new ≡ sets out.old 0 (value_lines header (memory_of words.now fences.now) header.values)) }
 {
     let mut next: usize = 0;
-    let mut value: u32 = 0;
-    while value < header.values {
+    for value in 0..header.values {
         let answer = query(words, fences, list, header, value);
         next = put_answer(list, out, next, value, answer);
-        value = value + 1;
     }
     next
 }
