@@ -13,6 +13,7 @@ from walk import Walk
 
 COPIED = ("Bytes", "Flow", "Front", "Lend", "Local")
 ALWAYS = {"s", "m", "v", "vm"}      # the shapes of a call that the library has at least
+KEPT = "shapes.txt"                 # the file of the library's crate that has the shapes which it keeps
 THIN = ("at", "put")                # the kinds of thin functions: a read, a write
 
 
@@ -88,12 +89,13 @@ def write_proof(sources, function, text):
 
 # ---- the library
 def shapes_in_use(sources):
-    """The shapes of the calls in all walks of the repository, as they are written."""
-    shapes = set()
+    """The shapes of calls that the library keeps, and those in all walks of the repository, as they are written."""
+    kept = (texts.content(os.path.join(sources.folder, KEPT)) or "").split("\n")
+    shapes = combinators.shapes_named(" ".join(line for line in kept if not line.startswith("#")))
     for folder, _, files in os.walk(os.path.join(sources.root, "crates")):
         if "walk.txt" in files:
             text = texts.content(os.path.join(folder, "Proof.antt")) or ""
-            used = re.search(rf"^use Rattle·{sources.crate}\.proofs\.Calls\.\{{.*\}}$", text, re.M)
+            used = re.search(rf"^use Rattle\.{sources.crate}\.proofs\.Calls\.\{{.*\}}$", text, re.M)
             shapes |= combinators.shapes_named(used.group()) if used else set()
     return shapes
 

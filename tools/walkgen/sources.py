@@ -105,7 +105,7 @@ class Sources:
     def read_file(self, text, crate, module):
         text = re.sub(r"//[^\n]*", "", text)
         uses = re.findall(r"ghost use ([^;]*);", text)
-        self.ghost_uses[(crate, *module)] = [self.seen_from_here(" ".join(use.split()), crate) for use in uses]
+        self.ghost_uses[(crate, *module)] = [" ".join(use.split()) for use in uses]
         for name, inside in STRUCT.findall(text):
             self.declare(Declaration("struct", name, crate, module, fields_of(inside)))
         for name, inside, _, _ in blocks_of(text, "enum"):
@@ -121,16 +121,11 @@ class Sources:
     def declare(self, declaration):
         self.declarations[declaration.path] = declaration
 
-    def seen_from_here(self, use, crate):
-        """A `use` of a crate's source, with the crate's own modules by the path that they have here."""
-        for part in ("specs", "proofs"):
-            use = use.replace(f"Rattle·{crate}·{part}.{part}.", self.modules(crate, part))
-        return use
-
     # ---- finding
-    def modules(self, crate, part):
-        """The path to a crate's specs or proofs: its own by the library, another's through its facade."""
-        return f"Rattle·{crate}·{part}.{part}." if crate == self.crate else f"Rattle·{crate}.{part}."
+    @staticmethod
+    def modules(crate, part):
+        """The path to a crate's specs or proofs."""
+        return f"Rattle.{crate}.{part}."
 
     @property
     def library(self):

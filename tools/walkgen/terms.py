@@ -29,8 +29,8 @@ def list_of(items):
 
 
 def part(term, index):
-    """The part of a nested tuple at index: `a .1 .1 .0`"""
-    return term + " .1" * index + " .0"
+    """The part of a nested tuple at index: `a.1.1.0`"""
+    return term + ".1" * index + ".0"
 
 
 def enclosed(term):
