@@ -7,7 +7,6 @@ import proof
 import texts
 from author import WalkFile
 from refusal import Refused
-from terms import kebab
 from types_in_use import TypesInUse
 from walk import Walk
 
@@ -59,15 +58,17 @@ def thin_text(sources, function, kind):
     struct = types.declarations[first.element.name]
     if [text for _, text in struct.parts] != ["u32", "u32"]:
         raise Refused(f"{struct.path} is no struct of two u32")
+    specs = sources.modules(struct.crate, "specs")
     gaps = {
         "CRATE": sources.crate,
         "LIBRARY": sources.library,
         "FUNCTION": function.name,
-        "PROOFS": function.dotted,
-        "TAG": kebab(function.name),
+        "PATH": function.dotted,
+        "TAG": function.name,
         "STRUCT": struct.name,
-        "DECLARED": f"{sources.modules(struct.crate, 'specs')}declared.{struct.dotted}",
-        "LAWS": sources.modules(struct.crate, "proofs") + struct.dotted,
+        "DECLARED": f"{specs}declared.{struct.dotted}",
+        "CONTRACT": f"{specs}contracts.{struct.dotted}",
+        "LAWS": f"{sources.modules(struct.crate, 'proofs')}{struct.dotted}.TheLaws",
         "FIELD0": struct.parts[0][0],
         "FIELD1": struct.parts[1][0],
     }
