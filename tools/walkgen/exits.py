@@ -28,7 +28,7 @@ def leave(walk, state, behind):
 def returns(walk, behind):
     """The rule of a `return` at this place."""
     if walk.loop:
-        return "returns_within ! Post (turn_returns 𝓤 H _ _)"
+        return "returns_within ! Post (turn_returns 𝓤 𝓛.H _ _)"
     return "returns_within ! Post refl" if behind.within else "returns !"
 
 

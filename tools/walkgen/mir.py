@@ -46,14 +46,12 @@ def read(crate, folder):
 
 
 def routine_of(text):
-    """The function `by_name` of a module, in which each definition that it names is put in place."""
+    """A module's function, with declared types by their names, in which each definition that it names is put in place."""
     callees = {alias or "Symbol": "::".join([crate, *steps.split(".")]) for crate, steps, alias in CALLEE.findall(text)}
     definitions = {}
     for name, term in DEFINITION.findall(text):
-        if not name.startswith("by_name"):
-            break
         definitions[name] = Reader(term, callees, definitions).term()
-    function = definitions["by_name"]
+    function = definitions.get("by_name") or definitions["function"]
     return Routine([local[1] for local in items(function["locals"])], function["body"])
 
 

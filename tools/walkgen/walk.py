@@ -16,7 +16,7 @@ from names import Names
 from plan import Behind, Slice, State, Value
 from refusal import Refused
 from script import Script
-from terms import clause_at
+from terms import clause_at, enclosed
 from types_in_use import TypesInUse
 
 
@@ -191,7 +191,7 @@ class Walk:
         text, value, _ = operands.operand(self, condition, state)
         number = self.number("test")
         fact, rule = f"h{number}", f"on{number}"
-        outcomes = (f"T ({value.term})", f"T (not ({value.term}))")
+        outcomes = (f"T {enclosed(value.term)}", f"T (not {enclosed(value.term)})")
         self.author.note(fact, f"{outcomes[0]} on the first arm, {outcomes[1]} on the second")
         if rest:
             head, binder, behind_arm = "tests", f"(λ {fact} {rule}.", behind.arm(rest, rule)
