@@ -7,7 +7,7 @@
     python3 tools/walkgen check CRATE              say whether the proofs are what walkgen writes; of crates/mir_walks the library
 
 CRATE is a crate's folder, crates/NAME. FN is a function's name, with its module where that is needed: `a::insert`.
-With --mir FILE the MIR is read from a file that `rt mir NAME` printed, and rt is not run.
+With --generated FOLDER the MIR is read from what `rt check --generated FOLDER` wrote, and rt is not run.
 README.md, beside this file, says what a walk.txt holds.
 """
 import argparse
@@ -38,7 +38,7 @@ def thin(sources, options):
 
 
 def show(sources, options):
-    routines = mir.of_crate(sources, options.mir)
+    routines = mir.of_crate(sources, options.generated)
     function = sources.find(options.function)
     walk_ = library.walk_of(sources, function, routines)
     for local, type_ in enumerate(routines[function.path].local_types):
@@ -51,7 +51,7 @@ def show(sources, options):
 
 
 def walk(sources, options):
-    routines = mir.of_crate(sources, options.mir)
+    routines = mir.of_crate(sources, options.generated)
     functions = [(name, sources.find(name)) for name in options.functions]
     if not functions:
         functions = [(function.in_crate, function) for function in library.walked_functions(sources)]
@@ -69,7 +69,7 @@ def check(sources, options):
     if sources.crate == LIBRARY:
         comparison.compare_library(library.shapes_in_use(sources))
     else:
-        comparison.compare_proofs(lambda: mir.of_crate(sources, options.mir))
+        comparison.compare_proofs(lambda: mir.of_crate(sources, options.generated))
     for line in comparison.differences:
         print(line)
     if comparison.differences:
@@ -94,7 +94,7 @@ def parse(arguments):
         if command is thin:
             words.add_argument("kind", choices=library.THIN)
         elif command is not lib:
-            words.add_argument("--mir")
+            words.add_argument("--generated")
         if command is walk:
             words.add_argument("functions", nargs="*")
     return parser.parse_args(arguments)

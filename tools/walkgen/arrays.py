@@ -26,7 +26,7 @@ def make(walk, local, right, rest, state, behind):
     element = walk.local_types[local].element
     if element.kind not in ("num", "struct", "enum"):
         raise Refused("a local array whose elements are no numbers, structs or enums")
-    length = right[2] if isinstance(right[2], str) else right[2][1]
+    length = right[2]
     text, value, _ = operands.operand(walk, right[1], state)
     if words_of(value.term) & {name for name, _ in state.scope}:
         raise Refused("a local array that begins with something other than numbers that are written out")
@@ -65,11 +65,11 @@ def write_loan(walk, local, name, element, length, text, relation, position):
     row, each, mark = element.row, f"each-{name}", subscript(local)
     machine = element.machine_value(each)
     repeated = f"(repeats {row} {length} {each} ({machine}) {relation})"
-    typed = f"(array-typed {row} ({element.lawful}) {length} {name} _ {repeated} .0)"
+    typed = f"(Array-Typed {row} ({element.lawful}) {length} {name} _ {repeated}).0"
     walk.script.write(f"assigns ! (rep ! {length} {text}) (from ! (stop !)) (init ! {position} refl {typed}) $")
     walk.script.write(f"-- {name} is lent")
     walk.script.write(
-        f"move ! ({position} ∷ []) $ lend-array ! tt {row} tt ({element.makes}) {length} {each} ({machine}) l{mark} "
+        f"move ! ({position} ∷ []) $ lend_array ! tt {row} tt ({element.makes}) {length} {each} ({machine}) l{mark} "
         f"{relation} (lit< tt, lit< tt) (λ ν′{mark} δ′{mark}.")
     if position:
         walk.script.write(f"move ! ({list_of(map(str, [0, 1, *range(3, 3 + position)]))}) $")
@@ -85,7 +85,7 @@ def give_back(walk, state):
         mark, cell, element = subscript(array.local), f"cell {array.local}", array.type.element
         move = context.bring(f"token {array.name}", f"slice {array.name}", cell)
         walk.script.write(
-            f"{move}back-array ! tt {element.row} ({element.spelled}) ({element.tells}) {array.length} "
+            f"{move}back_array ! tt {element.row} ({element.spelled}) ({element.tells}) {array.length} "
             f"l{mark} ν′{mark} δ′{mark} {enclosed(array.list)} {enclosed(array.same_length)} (")
         context.replace(3, cell)
         state.locals[array.local] = None

@@ -64,7 +64,7 @@ class Call:
         plain = {name: value.term for (name, _), value in zip(self.plain_parameters, self.values)}
         changed = [name for name, type_ in self.slice_parameters if type_.mutable]
         exits = {name: new for name, (_, new, _) in zip(changed, self.changed)}
-        bound = (callee.result_name, self.answer) if callee.result_name != "_" else None
+        bound = ("result", self.answer)
         self.requires = callee.requires and clause_at(self.clause(callee.requires), lists, plain)
         self.ensures = "Unit {0}"
         if callee.ensures:
@@ -76,7 +76,7 @@ class Call:
         for (name, type_), value in zip(self.plain_parameters, self.values):
             if type_.kind == "struct" and value.fields is not None:
                 for (field, _), part in zip(self.walk.types.fields(type_.name), value.fields):
-                    field_of = r"(?<![^\s(])" + re.escape(f"{name} .{field}") + r"(?![\w-])"
+                    field_of = r"(?<![^\s(])" + re.escape(f"{name}.{field}") + r"(?![\w'-])"
                     text = re.sub(field_of, enclosed(part.term).replace("\\", r"\\"), text)
         return text
 
@@ -87,10 +87,10 @@ class Call:
         needed = "id⊢ 𝓤 _"
         if self.requires:
             proof = self.walk.author.proves(f"call.{number}", self.requires, self.state.scope)
-            needed = f"factI 𝓤 ({self.requires}) (emp 𝓤) {proof}"
-        ensured = "id⊢ 𝓤 _" if self.callee.ensures else "factI 𝓤 (Unit {0}) (emp 𝓤) tt"
+            needed = f"fact_i 𝓤 ({self.requires}) (emp 𝓤) {proof}"
+        ensured = "id⊢ 𝓤 _" if self.callee.ensures else "fact_i 𝓤 (Unit {0}) (emp 𝓤) tt"
         self.walk.author.note(f"e{number}", self.ensures)
-        deltas = "".join(f" δ{subscript(index)}" for index in range(len(self.slices)))
+        deltas = "".join(f" δ{subscript(index)}" for index, letter in enumerate(self.shape) if letter in "mf")
         terms, machine, owned = self.plain_arguments()
         at = f"λ κs{deltas}."
         self.show_fronts()
@@ -102,7 +102,7 @@ class Call:
         for own, new, front in self.changed:
             if front:
                 before = f"{enclosed(front)} {enclosed(own.list)}"
-                own.same_length = (f"(front-length {before} {enclosed(own.length)} {enclosed(own.same_length)} "
+                own.same_length = (f"(front_length {before} {enclosed(own.length)} {enclosed(own.same_length)} "
                                    f"{self.fit[own.name]} {new} n-{new})")
                 own.list = f"(refronted {before} {new})"
             else:
@@ -126,11 +126,13 @@ class Call:
         rows = " ".join([*(each.type.element.row for each in self.slices), self.result.row])
         slots = enclosed(list_of(f"plain (λ _. {type_.row})" for _, type_ in self.plain_parameters))
         text = f"{combinators.name_of(self.shape)} ! fm {rows} {slots} {tuple_of(['yes'] * len(self.values))}"
-        text += f" ({self.tag}-F.clauses 𝓤 H A mem run) known-{self.tag}"
-        for each, front in zip(self.slices, self.fronts):
-            place = f"{each.block} {each.offset} {each.ghost}"
+        text += f" ({self.tag}-F.clauses 𝓛 mem run) known-{self.tag}"
+        for each, front, letter in zip(self.slices, self.fronts, self.shape):
+            place = f"{each.block} {each.offset}" if letter == "s" else f"{each.block} {each.offset} {each.ghost}"
             text += f" {place} {enclosed(each.list)} {enclosed(each.length)} {enclosed(each.same_length)}"
             text += f" {enclosed(front)} {self.fit[each.name]}" if front else ""
+            element = each.type.element
+            text += {"s": f" ({element.row_laws})", "v": f" ({element.shares}) ({element.within(each.lifetime)})"}.get(letter, "")
         return text
 
     def plain_arguments(self):
@@ -141,7 +143,7 @@ class Call:
         machine = tuple_of([f"{type_.machine_value(value.term)} ∷ []" for type_, value in zip(types, self.values)])
         makes = tuple_of([type_.makes for type_ in types])
         relations = tuple_of([value.relation for value in self.values])
-        return terms, machine, f"owns-make 𝓤 H A {rows} (Ises {rows}) {makes} {terms} {machine} {relations}"
+        return terms, machine, f"owns_make 𝓛 {rows} (Ises {rows}) {makes} {terms} {machine} {relations}"
 
     def lists(self):
         return "".join(f" {new}" for _, new, _ in self.changed)
@@ -160,7 +162,7 @@ class Call:
         elif self.result.kind == "unit":
             value = Value(self.result, "tt")
         else:
-            value = Value(self.result, answer, f"(is{number} .1)" if self.result.kind == "num" else "refl")
+            value = Value(self.result, answer, f"is{number}.1" if self.result.kind == "num" else "refl")
         self.land(self.state, answer, value)
         self.go_on(self.state)
         self.walk.script.close()
@@ -198,20 +200,20 @@ class Call:
 
     def told(self, term):
         """That a declared type's answer is what its type says."""
-        how, name = "told" if self.result.kind == "struct" else "told-enum", self.result.name
-        return f"({how} {name}-T.the-type {name}-L.the-laws {term} _ is{self.number})"
+        how, name = "told" if self.result.kind == "struct" else "told_enum", self.result.name
+        return f"({how} {name}-T.the_type {name}-L.the_laws {term} _ is{self.number})"
 
     def land(self, state, term, value):
         """The answer is written to its local, at the machine value that its type spells."""
         if self.rest:
             how = "land !"
         elif self.behind.ends_turn:
-            how = f"lands-again ! {self.walk.loop.below}"
+            how = f"lands_again ! {self.walk.loop.below}"
         else:
-            how = "land-last !"
-        text = f"{how} {self.walk.store(self.local, state, f'({self.result.lawful} {term} _ is{self.number} .0)')}"
+            how = "land_last !"
+        text = f"{how} {self.walk.store(self.local, state, f'({self.result.lawful} {term} _ is{self.number}).0')}"
         if self.result.kind != "unit":
-            cell = f"‵ (fat fullShare ({self.result.cell}) l{subscript(self.local)} 0 w)"
+            cell = f"‵ (fat full_share ({self.result.cell}) l{subscript(self.local)} 0 w)"
             spelled = f"(ap only ({self.result.tells} {term} _ is{self.number}))"
             text += f" rewrite ! {self.walk.position(self.local, state)} (λ (w : Val). {cell}) {spelled} refl $"
         self.walk.script.write(text)

@@ -28,8 +28,8 @@ def leave(walk, state, behind):
 def returns(walk, behind):
     """The rule of a `return` at this place."""
     if walk.loop:
-        return "returns-within ! Post (turn-returns 𝓤 H _ _)"
-    return "returns-within ! Post refl" if behind.within else "returns !"
+        return "returns_within ! Post (turn_returns 𝓤 𝓛.H _ _)"
+    return "returns_within ! Post refl" if behind.within else "returns !"
 
 
 def free_locals(walk, state):
@@ -39,7 +39,7 @@ def free_locals(walk, state):
     for local in range(len(walk.local_types)):
         content = "none" if state.locals.get(local) is None else "some _"
         cells.append(f"(_, (l{subscript(local)}, {content}))")
-    walk.script.write(f"frees-all ! {enclosed(heads)} ({list_of(cells)}) $")
+    walk.script.write(f"frees_all ! {enclosed(heads)} ({list_of(cells)}) $")
 
 
 def keep_slices(walk, state):

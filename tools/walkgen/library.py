@@ -7,12 +7,12 @@ import proof
 import texts
 from author import WalkFile
 from refusal import Refused
-from terms import kebab
 from types_in_use import TypesInUse
 from walk import Walk
 
 COPIED = ("Bytes", "Flow", "Front", "Lend", "Local")
 ALWAYS = {"s", "m", "v", "vm"}      # the shapes of a call that the library has at least
+KEPT = "shapes.txt"                 # the file of the library's crate that has the shapes which it keeps
 THIN = ("at", "put")                # the kinds of thin functions: a read, a write
 
 
@@ -58,15 +58,17 @@ def thin_text(sources, function, kind):
     struct = types.declarations[first.element.name]
     if [text for _, text in struct.parts] != ["u32", "u32"]:
         raise Refused(f"{struct.path} is no struct of two u32")
+    specs = sources.modules(struct.crate, "specs")
     gaps = {
         "CRATE": sources.crate,
         "LIBRARY": sources.library,
         "FUNCTION": function.name,
-        "PROOFS": function.dotted,
-        "TAG": kebab(function.name),
+        "PATH": function.dotted,
+        "TAG": function.name,
         "STRUCT": struct.name,
-        "DECLARED": f"{sources.modules(struct.crate, 'specs')}declared.{struct.dotted}",
-        "LAWS": sources.modules(struct.crate, "proofs") + struct.dotted,
+        "DECLARED": f"{specs}declared.{struct.dotted}",
+        "CONTRACT": f"{specs}contracts.{struct.dotted}",
+        "LAWS": f"{sources.modules(struct.crate, 'proofs')}{struct.dotted}.TheLaws",
         "FIELD0": struct.parts[0][0],
         "FIELD1": struct.parts[1][0],
     }
@@ -88,12 +90,13 @@ def write_proof(sources, function, text):
 
 # ---- the library
 def shapes_in_use(sources):
-    """The shapes of the calls in all walks of the repository, as they are written."""
-    shapes = set()
+    """The shapes of calls that the library keeps, and those in all walks of the repository, as they are written."""
+    kept = (texts.content(os.path.join(sources.folder, KEPT)) or "").split("\n")
+    shapes = combinators.shapes_named(" ".join(line for line in kept if not line.startswith("#")))
     for folder, _, files in os.walk(os.path.join(sources.root, "crates")):
         if "walk.txt" in files:
             text = texts.content(os.path.join(folder, "Proof.antt")) or ""
-            used = re.search(rf"^use Rattle·{sources.crate}\.proofs\.Calls\.\{{.*\}}$", text, re.M)
+            used = re.search(rf"^use Rattle\.{sources.crate}\.proofs\.Calls\.\{{.*\}}$", text, re.M)
             shapes |= combinators.shapes_named(used.group()) if used else set()
     return shapes
 

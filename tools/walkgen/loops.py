@@ -97,7 +97,7 @@ class Loop:
                 "covered function answer the bool")
         statements = mir.statements(inner[1])
         self.test, self.turn = statements[0], statements[2:]
-        if not (is_test(self.test) and self.turn and mir.kind_of(statements[1]) == "if" and statements[1][2] == "skip"):
+        if not (is_test(self.test) and self.turn and mir.kind_of(statements[1]) == "cond" and statements[1][2] == "skip"):
             raise Refused("a loop whose test is not `j < d` on two numbers in locals")
         self.counter = mir.local_of(self.test[2][2][1])
 
@@ -143,10 +143,10 @@ class Loop:
         return sorted({mir.local_of(node[places[node[0]]]) for node in nodes})
 
     def changed_slices(self, state):
-        """The slices that a turn passes on as `&mut`, each by a reborrow: an `addrOf`, then an `aggregate` of it."""
+        """The slices that a turn passes on as `&mut`, each by a reborrow: an `addr_of`, then an `aggregate` of it."""
         sources, passed = {}, []
         for node in mir.nodes(self.turn):
-            if node[0] == "assign" and node[2][0] == "addrOf":
+            if node[0] == "assign" and node[2][0] == "addr_of":
                 sources[mir.local_of(node[1])] = mir.local_of(node[2][1])
             elif node[0] == "assign" and node[2][0] == "aggregate":
                 local = mir.local_of(node[1])
@@ -169,17 +169,17 @@ class Loop:
         self.facts = [(f"le{mark}", f"{self.count} ≤ {self.bound.term}")]
         self.facts += [(each.fact_name, each.fact) for each in self.carried]
         self.facts.append((f"inv{mark}", self.invariant))
-        self.projections = {name: f"({part(variable, index)})" for index, name in enumerate(self.names)}
-        base = variable + " .1" * len(self.names)
+        self.projections = {name: part(variable, index) for index, name in enumerate(self.names)}
+        base = variable + ".1" * len(self.names)
         for index, (name, _) in enumerate(self.facts[:-1]):
-            self.projections[name] = f"({part(base, index)})"
-        self.projections[f"inv{mark}"] = f"({base}{' .1' * (len(self.facts) - 1)})"
+            self.projections[name] = part(base, index)
+        self.projections[f"inv{mark}"] = base + ".1" * (len(self.facts) - 1)
         # what the turn's text needs
         self.bound_fits = enclosed(self.bound.proof)
-        self.next_fits = f"(below-word (next-le less{mark}) {self.bound_fits})"
-        self.measure = f"(λ ({variable} : X{mark}). {variable} .0) {enclosed(self.bound.term)}"
+        self.next_fits = f"(below_word (next_le less{mark}) {self.bound_fits})"
+        self.measure = f"(λ ({variable} : X{mark}). {variable}.0) {enclosed(self.bound.term)}"
         self.at = f"At{mark} {variable}"
-        self.below = f"(Below 𝓤 H A (Nearer {self.measure}) {self.at}) _"
+        self.below = f"(Below 𝓛 (Nearer {self.measure}) {self.at}) _"
 
     # ---- the state
     def type_of_state(self):
@@ -204,7 +204,7 @@ class Loop:
     def head_of_turn(self, state):
         """The state at the head of a turn, in the names of its parts."""
         head = state.copy()
-        fits = f"(below-word le{self.mark} {self.bound_fits})"
+        fits = f"(below_word le{self.mark} {self.bound_fits})"
         head.locals[self.counter] = Value(state.locals[self.counter].type, self.count, fits)
         for each in self.carried:
             each.begin(head)
@@ -232,7 +232,7 @@ class Loop:
             return f"‵ (flent (ν′{mark} ∷ []) (Held {value.type.element.row} {value.type.length} l{mark} 0 δ′{mark}))"
         is_slice = value.type.kind == "slice"
         content = head.slices[value.refers_to].machine_value if is_slice else value.type.machine_value(value.term)
-        return f"‵ (fat fullShare ({cell}) l{mark} 0 ({content}))"
+        return f"‵ (fat full_share ({cell}) l{mark} 0 ({content}))"
 
     # ---- writing
     def write(self, rest, state, behind):
@@ -248,8 +248,8 @@ class Loop:
         write(f"let X{mark} : Type 0 = {self.type_of_state()} in")
         items = replaced(" ∷ ".join(self.context(head)), self.projections)
         write(f"let At{mark} : X{mark} → List (Item 𝓤) = λ {variable}. {items} ∷ [] in")
-        order = f"(Nearer {self.measure}) (Nearer-wf {self.measure})"
-        write(f"while-loops ! 𝓣 {order} At{mark} (λ {variable} whiles{mark}.")
+        order = f"(Nearer {self.measure}) (Nearer_wf {self.measure})"
+        write(f"while_loops ! 𝓣 {order} At{mark} (λ {variable} whiles{mark}.")
         first = len(walk.script.lines)
         self.write_test(head)
         self.write_turn(head)
@@ -283,12 +283,12 @@ class Loop:
             raise Refused("a turn that does not add 1 to the counter")
         self.turns_ended += 1
         key = "keep" if self.turns_ended == 1 else f"keep.{self.turns_ended}"
-        following = self.state_at(state, f"(next-le {less})", key)
+        following = self.state_at(state, f"(next_le {less})", key)
         made = [local for local in reversed(range(len(walk.local_types)))
                 if state.locals.get(local) is not None and local not in self.filled]
         walk.script.write(" ".join(f"forget ! {walk.position(local, state)} refl $" for local in made))
         walk.script.write(state.bring(self.order))
-        walk.script.write(f"again ! (Nearer {self.measure}) {self.at} {following} (next-nearer {less})")
+        walk.script.write(f"again ! (Nearer {self.measure}) {self.at} {following} (next_nearer {less})")
 
     def project(self, first):
         """In the lines from first on the names of the parts become the projections of the state."""
@@ -297,7 +297,7 @@ class Loop:
         meaning = {
             **self.projections,
             f"less{mark}": f"(ltb→lt {count} {bound} less-h{mark})",
-            f"all{mark}": f"(le-antisymm {at_most} (nltb→le {count} {bound} done-h{mark}))",
+            f"all{mark}": f"(le_antisymm {at_most} (nltb→le {count} {bound} done-h{mark}))",
         }
         lines = self.walk.script.lines
         lines[first:] = [replaced(line, meaning) for line in lines[first:]]

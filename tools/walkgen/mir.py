@@ -1,11 +1,12 @@
-"""The MIR of a crate, as `rt mir` prints it: read into trees, and shown for reading.
+"""The MIR of a crate, as `rt check --generated` writes it: read into trees, and shown for reading.
 
-A tree is a word or a list of trees, as of `(assign (place 4 lnil) (rvOpd (int 64 0)))`. Mir/Syntax.antt of Rattle's
-logic says what the constructors mean; the printed MIR has `if`, `true`, `false`, `unit` and `not` for its `cond`,
-`opdTrue`, `opdFalse`, `opdUnit` and `bitNot`.
+A tree is a word or a list of trees, as of `(assign (place 4 []) (rv_opd (int w64 0)))`. Mir/Syntax.antt of Rattle's
+logic says what the constructors mean. The callee of a call is the tree `(callee "crate::module::name")`.
 """
+import os
 import re
 import subprocess
+import tempfile
 from collections import namedtuple
 
 import texts
@@ -14,40 +15,99 @@ from value_types import Type
 
 Routine = namedtuple("Routine", "local_types body")
 
-TOKEN = re.compile(r'"[^"]*"|[()]|[^\s()]+')
-SLICE = '"&[]"'
+TOKEN = re.compile(r'"[^"]*"|[(){}=;,]|[^\s(){}=;,]+')
+DEFINITION = re.compile(r"^abbrev pub (\S+) :.*?^\1 =(.*?)(?=^abbrev |\Z)", re.M | re.S)
+CALLEE = re.compile(r"^use Rattle\.(\w+)\.proofs\.(\S+)\.Symbol(?: as (\S+))?$", re.M)
+SLICE = "&[]"
 
 
-def of_crate(sources, file=None):
-    """{path: Routine} of a crate's functions and of those that they call; from a file, or else from `rt mir`."""
-    if file:
-        return read(texts.content(file))
-    printed = subprocess.run(["rt", "mir", sources.crate], cwd=sources.root, capture_output=True, text=True)
-    if printed.returncode:
-        raise Refused(f"rt mir {sources.crate}: {printed.stderr.strip()}")
-    return read(printed.stdout)
-
-
-def read(text):
-    routines = {}
-    for definition in items(tree_of(text)[1]):
-        path, function = definition[1:3]
-        routines[unquoted(path)] = Routine([local[1] for local in items(function[4])], function[5])
+def of_crate(sources, folder=None):
+    """{path: Routine} of a crate's functions; from a folder that `rt check --generated` wrote, or else by running it."""
+    if folder:
+        return read(sources.crate, folder)
+    with tempfile.TemporaryDirectory() as folder:
+        command = ["rt", "check", "--allow-holes", "--generated", folder]
+        printed = subprocess.run(command, cwd=sources.folder, capture_output=True, text=True)
+        routines = read(sources.crate, folder)
+    if not routines:
+        raise Refused(f"{' '.join(command[:3])}, in {sources.folder}: {(printed.stdout + printed.stderr).strip()}")
     return routines
 
 
-def tree_of(text):
-    """The tree of a text whose outer parentheses are left out, nested as deep as it likes."""
-    open_lists = [[]]
-    for token in TOKEN.findall(text):
+def read(crate, folder):
+    """The routines whose MIR stands in the folder, `Rattle-CRATE-proofs/MODULE/FUNCTION/Code/Mir.antt`."""
+    routines = {}
+    top = os.path.join(folder, f"Rattle-{crate}-proofs")
+    for here, _, files in os.walk(top):
+        if os.path.basename(here) == "Code" and "Mir.antt" in files:
+            steps = os.path.relpath(os.path.dirname(here), top).split(os.sep)
+            routines["::".join([crate, *steps])] = routine_of(texts.content(os.path.join(here, "Mir.antt")))
+    return routines
+
+
+def routine_of(text):
+    """A module's function, with declared types by their names, in which each definition that it names is put in place."""
+    callees = {alias or "Symbol": "::".join([crate, *steps.split(".")]) for crate, steps, alias in CALLEE.findall(text)}
+    definitions = {}
+    for name, term in DEFINITION.findall(text):
+        definitions[name] = Reader(term, callees, definitions).term()
+    function = definitions.get("by_name") or definitions["function"]
+    return Routine([local[1] for local in items(function["locals"])], function["body"])
+
+
+class Reader:
+    """Reads a term of a printed module: an application, a record or a tuple."""
+
+    def __init__(self, text, callees, definitions):
+        self.tokens, self.place = TOKEN.findall(text), 0
+        self.callees, self.definitions = callees, definitions
+
+    @property
+    def next(self):
+        return self.tokens[self.place] if self.place < len(self.tokens) else ""
+
+    def take(self):
+        self.place += 1
+        return self.tokens[self.place - 1]
+
+    def term(self):
+        """A word, or a word with its arguments."""
+        parts = []
+        while self.next not in ("", ")", "}", ";", ","):
+            parts.append(self.argument())
+        return parts[0] if len(parts) == 1 else parts
+
+    def argument(self):
+        token = self.take()
         if token == "(":
-            open_lists.append([])
-        elif token == ")":
-            inner = open_lists.pop()
-            open_lists[-1].append(inner)
-        else:
-            open_lists[-1].append(token)
-    return open_lists[0]
+            return self.in_parentheses()
+        if token == "record" and self.next == "{":
+            return self.record()
+        module, dot, name = token.rpartition(".")
+        if name == "name" and module in self.callees:
+            return ["callee", f'"{self.callees[module]}"']
+        return self.definitions.get(token, name if dot else token)
+
+    def in_parentheses(self):
+        """A term, or a tuple of several."""
+        parts = []
+        while self.next != ")":
+            parts.append(self.term())
+            if self.next == ",":
+                self.take()
+        self.take()
+        return parts[0] if len(parts) == 1 else ["tuple", *parts]
+
+    def record(self):
+        fields = {}
+        self.take()
+        while self.next != "}":
+            name, _ = self.take(), self.take()      # the field, and `=`
+            fields[name] = self.term()
+            if self.next == ";":
+                self.take()
+        self.take()
+        return fields
 
 
 # ---- parts of a tree
@@ -60,12 +120,21 @@ def kind_of(tree):
 
 
 def items(tree):
-    """The items of a list, `lcons a (lcons b lnil)`"""
+    """The items of a list, `◌∷◌ a (◌∷◌ b [])`"""
     found = []
-    while kind_of(tree) in ("lcons", "tcons"):
+    while kind_of(tree) in ("◌∷◌", "tcons"):
         found.append(tree[1])
         tree = tree[2]
     return found
+
+
+def name_of(tree):
+    """The name of a declared type: a pair of its letters, as numbers, and its lifetimes."""
+    return letters(tree[1])
+
+
+def letters(tree):
+    return "".join(chr(int(code)) for code in items(tree))
 
 
 def statements(body):
@@ -80,7 +149,7 @@ def statements(body):
 def arms(tree):
     """[(keys, body)] of a switch; keys is None at the default."""
     found = []
-    while tree != "noDefault":
+    while tree != "no_default":
         if tree[0] == "default":
             return found + [(None, tree[1])]
         found.append((items(tree[1]), tree[2]))
@@ -102,28 +171,35 @@ def local_of(place):
     return int(place[1])
 
 
+def bits_of(width):
+    """The bits of a width, `w64`"""
+    return int(width[1:])
+
+
 def callee_of(call):
     """The path of the function that a call statement calls."""
-    return unquoted(call[1][1][1])
+    if kind_of(call[1]) != "callee":
+        raise Refused("a call of a function with type parameters, or by a pointer: let a function without them do it")
+    return unquoted(call[1][1])
 
 
 def type_of(tree, types):
     """The type that a tree is; types finds the declared ones."""
     kind = kind_of(tree)
-    if kind == "tyBool":
+    if kind == "ty_bool":
         return Type("bool")
-    if kind == "tyUnit":
+    if kind == "ty_unit":
         return Type("unit")
-    if kind == "tyInt":
-        return Type("num", "u" + tree[1])
-    if kind == "tyNamed":
-        return types.named(unquoted(tree[1][1]))
-    if kind == "tyStruct" and tree[1] == SLICE:
+    if kind == "ty_int":
+        return Type("num", f"u{bits_of(tree[1])}")
+    if kind == "ty_named":
+        return types.named(name_of(tree[1]))
+    if kind == "ty_struct" and letters(tree[1]) == SLICE:
         return Type("slice", **reference_parts(items(tree[2])[0], types))
-    if kind == "tyRef":
+    if kind == "ty_ref":
         return Type("ref", **reference_parts(tree, types))
-    if kind == "tyArray":
-        length = tree[2][1] if kind_of(tree[2]) == "lenLit" else None
+    if kind == "ty_array":
+        length = tree[2] if isinstance(tree[2], str) else None
         return Type("array", element=type_of(tree[1], types), length=length)
     return Type("other", shown(tree))
 
@@ -140,21 +216,21 @@ def shown(tree):
     if not tree:
         return "()"
     kind = tree[0]
-    if kind in ("lcons", "tcons"):
+    if kind in ("◌∷◌", "tcons"):
         return "[" + ", ".join(shown(item) for item in items(tree)) + "]"
     if kind == "place":
         return "_" + tree[1] + "".join("." + shown_step(step) for step in items(tree[2]))
-    if kind in ("copy", "rvOpd", "direct"):
+    if kind in ("copy", "rv_opd"):
         return shown(tree[1])
-    if kind == "fnRef":
+    if kind == "callee":
         return unquoted(tree[1])
-    if kind == "tyNamed":
-        return unquoted(tree[1][1])
-    if kind == "tyInt":
-        return "u" + tree[1]
-    if kind == "int":
+    if kind == "ty_named":
+        return name_of(tree[1])
+    if kind == "ty_int":
+        return f"u{bits_of(tree[1])}"
+    if kind in ("int", "int_big"):
         return tree[2]
-    if kind == "tyStruct" and tree[1] == SLICE:
+    if kind == "ty_struct" and letters(tree[1]) == SLICE:
         reference = items(tree[2])[0]
         return f"&{'mut ' if reference[2] == 'mut' else ''}[{shown(reference[3])}]"
     return "(" + " ".join(shown(part) for part in tree) + ")"
@@ -174,7 +250,7 @@ def shown_body(body, indent):
         if kind in ("block", "loop"):
             yield indent + kind
             yield from shown_body(statement[1], deeper)
-        elif kind == "if":
+        elif kind == "cond":
             yield f"{indent}if {shown(statement[1])}"
             yield from shown_body(statement[2], deeper)
             yield f"{indent}else"

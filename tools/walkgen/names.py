@@ -12,16 +12,16 @@ from terms import replaced, words_of
 
 # what a walk takes of the library that walkgen writes
 OWN_FILES = [
-    "Lend.{ref}",
-    "Flow.{holds, fails, Nearer, Nearer-wf, told, told-enum, tests, matches, matches-last, while-loops, "
-    "assigns-again, lands-again, skips-again, turn-returns, frees-all, below-word, next-le, next-nearer, empties, "
-    "big-lit, widen-8-16, widen-8-32, widen-8-64, widen-16-32, widen-16-64, widen-32-64}",
-    "Local.{repeats, lend-array, back-array}",
-    "Front.{front, refronted, front-size, front-length}",
+    "Lend.{ref, seen}",
+    "Flow.{holds, fails, Nearer, Nearer_wf, told, told_enum, tests, matches, matches_last, while_loops, "
+    "assigns_again, lands_again, skips_again, turn_returns, frees_all, below_word, next_le, next_nearer, empties, "
+    "big_lit, widen_8_16, widen_8_32, widen_8_64, widen_16_32, widen_16_64, widen_32_64}",
+    "Local.{repeats, lend_array, back_array}",
+    "Front.{front, refronted, front_size, front_length}",
 ]
 
 # what the text of a walk binds or declares
-BOUND = set("""Arg Post args-of vals-of bound-of exits walk stayed code stated mem run fm are a e g is r u w
+BOUND = set("""Arg Post args_of vals_of bound_of exits walk stayed code stated mem run fm are a e g is r u w
     x X At x2 X2 At2 whiles req inv le less all on""".split())
 
 # words of antt, and names that a proof is clearer without
@@ -76,7 +76,7 @@ class Names:
     def clause(self, function, text):
         """A clause of a function's contract, with the names that it cites as they are here."""
         cited = brought_by(self.ghost_uses(function))
-        variables = {name for name, _ in function.parameters} | {function.result_name}
+        variables = {name for name, _ in function.parameters} | {"result"}
         renamed = {}
         for name in sorted(words_of(text) & set(cited) - variables):
             module, original = cited[name]
@@ -111,7 +111,7 @@ class Names:
 
 def crate_of(module):
     """The crate below whose module this is, if it is one."""
-    match = re.match(r"Rattle·(\w+)\.", module)
+    match = re.match(r"Rattle\.(\w+)\.", module)
     return match and match.group(1)
 
 
@@ -130,8 +130,7 @@ def joined(lines, text):
             continue
         for item in match.group(2).split(","):
             name = item.strip().split(" as ")[-1].strip()
-            infix = name.startswith("_") or name.endswith("_")
-            if name not in seen and (name.strip("_") if infix else name) in words:
+            if name not in seen and name.strip("◌") in words:
                 seen.add(name)
                 found.setdefault(f"{match.group(1)}.", []).append(item.strip())
     return "".join(f"use {line}\n" if names is None else f"use {line}{{{', '.join(names)}}}\n"

@@ -4,13 +4,14 @@ from collections import namedtuple
 import mir
 from plan import Value
 from refusal import Refused
-from terms import enclosed, tuple_of
+from terms import enclosed, part, tuple_of
 from value_types import Type
 
 # the text of the step, and the value; before: a line that the step needs in front of it
 Step = namedtuple("Step", "text value before", defaults=("",))
 
 TESTS = {"lt": "ltb {} {}", "le": "leb {} {}", "eq": "eqb {} {}", "ne": "not (eqb {} {})"}
+CONSTANTS = {"int": "lit ! tt", "int_neg": "neg_lit ! tt", "int_big": "big_lit ! (record { fits = lit< tt })"}
 ARITHMETIC = {"add": "{} + {}", "mul": "{} * {}", "sub": "{} - {}"}
 
 
@@ -20,31 +21,29 @@ def operand(walk, tree, state, ahead=0):
     kind = mir.kind_of(tree)
     if kind == "copy":
         return loaded(walk, tree[1], state, ahead)
-    if kind == "int":
-        return constant(int(tree[1]), int(tree[2]))
-    if kind in ("true", "false"):
-        return Step(f"({kind}-lit !)", Value(Type("bool"), kind, "refl"))
-    if kind == "unit":
-        return Step("(unit-lit !)", Value(Type("unit"), "tt"))
+    if kind in CONSTANTS:
+        return constant(kind, mir.bits_of(tree[1]), int(tree[2]))
+    if kind in ("opd_true", "opd_false"):
+        name = kind[len("opd_"):]
+        return Step(f"({name}_lit !)", Value(Type("bool"), name, "refl"))
+    if kind == "opd_unit":
+        return Step("(unit_lit !)", Value(Type("unit"), "tt"))
     raise Refused(f"an operand {mir.shown(tree)}")
 
 
 def joined(steps):
     """Several operands as one."""
-    text = "(no-more !)"
+    text = "(no_more !)"
     for step in reversed(steps):
-        text = f"(and-then ! {step.text} {text})"
+        text = f"(and_then ! {step.text} {text})"
     return text
 
 
-def constant(bits, number):
-    """A constant. The proof's MIR writes it from the nearer end of its width, or by its bound if both are far."""
-    from_top = 2 ** bits - number
-    if min(number, from_top) >= 1024:
-        text = "(big-lit ! (record { fits = lit< tt }))"
-    else:
-        text = "(lit ! tt)" if number <= from_top else "(neg-lit ! tt)"
-    return Step(text, Value(Type("num", f"u{bits}"), str(number), "(lit< tt)"))
+def constant(kind, bits, number):
+    """A constant, which the MIR counts from the upper end of its width where that is nearer."""
+    if kind == "int_neg":
+        number = 2 ** bits - number
+    return Step(f"({CONSTANTS[kind]})", Value(Type("num", f"u{bits}"), str(number), "(lit< tt)"))
 
 
 def loaded(walk, place, state, ahead):
@@ -54,7 +53,7 @@ def loaded(walk, place, state, ahead):
     position = walk.position(local, state) + ahead
     if not steps:
         return Step(f"(load ! (from ! (stop !)) (look ! {position} refl))", value)
-    hops, part, look = [], "(whole !)", "look-in"
+    hops, part, look = [], "(whole !)", "look_in"
     while steps:
         step = steps.pop(0)
         if step[0] == "field":
@@ -66,11 +65,11 @@ def loaded(walk, place, state, ahead):
             index = int(steps.pop(0)[1])
             hops += ["vrt ! refl", "fld ! refl"]
             if index == 0:
-                value, look = Value(Type("other", "tag"), tag_of=value), "look-tag"
+                value, look = Value(Type("other", "tag"), tag_of=value), "look_tag"
                 break
             if value.variant is None:
                 raise Refused("a variant's field is read where the variant is not known")
-            part = f"(in-variant ! {step[1]} {index - 1} refl refl {part})"
+            part = f"(in_variant ! {step[1]} {index - 1} refl refl {part})"
             value = value.fields[index - 1]
         else:
             raise Refused(f"a place with the step {step[0]}: let a covered function do this")
@@ -92,18 +91,19 @@ def field(walk, value, index, state):
         return value.fields[index]
     name, type_ = walk.types.fields(value.type.name)[index]
     proof = owed(value.type, enclosed(value.term), enclosed(value.proof), index, type_)
-    return Value(type_, f"({value.term} .{name})", proof)
+    return Value(type_, f"{enclosed(value.term)}.{name}", proof)
 
 
 def owed(declared, term, proof, index, type_):
     """That a part of a declared type's value is what its own type says."""
-    return f"({declared.law('owed')} {term} _ {proof}{' .1' * index} .0{' .1' if type_.kind == 'num' else ''})"
+    proofs = f"({declared.law('owed')} {term} _ {proof})"
+    return part(proofs, index) + (".1" if type_.kind == "num" else "")
 
 
 # ---- right sides
 def right_side(walk, tree, local, state):
     """What is assigned to a local."""
-    kinds = {"rvOpd": copied, "op2": binary, "op1": unary, "addrOf": address, "aggregate": aggregate}
+    kinds = {"rv_opd": copied, "op2": binary, "op1": unary, "addr_of": address, "aggregate": aggregate}
     if tree[0] not in kinds:
         raise Refused(f"a right side {tree[0]}")
     return kinds[tree[0]](walk, tree, local, state)
@@ -111,7 +111,7 @@ def right_side(walk, tree, local, state):
 
 def copied(walk, tree, local, state):
     text, value, _ = operand(walk, tree[1], state)
-    return Step(f"(of-opd ! {text})", value)
+    return Step(f"(of_opd ! {text})", value)
 
 
 def binary(walk, tree, local, state):
@@ -140,14 +140,14 @@ def unary(walk, tree, local, state):
     """A negation, or a cast of a number without a sign."""
     text, value, _ = operand(walk, tree[2], state)
     operation = tree[1]
-    if operation == "not" and value.type.kind == "bool":
+    if operation == "bit_not" and value.type.kind == "bool":
         return Step(f"(un ! {text} tt)", Value(Type("bool"), f"not ({value.term})", "refl"))
     if operation[:3] == ["cast", "unsigned", "unsigned"] and value.type.kind == "num":
-        before, after = value.type.bits, int(operation[3])
+        before, after = value.type.bits, mir.bits_of(operation[3])
         if before == after:
             fits = value.proof
         elif before < after:
-            fits = f"(widen-{before}-{after} {value.proof})"
+            fits = f"(widen_{before}_{after} {value.proof})"
         else:
             fits = walk.author.proves(f"fits.{walk.number('fit')}", f"{value.term} < 2 ^ {after}", state.scope)
         return Step(f"(un ! {text} (record {{ fits = {fits} }}))", Value(walk.local_types[local], value.term, fits))
@@ -162,7 +162,7 @@ def address(walk, tree, local, state):
     if kind == "array" and not steps:
         return Step("(addr ! (from ! (stop !)))", Value(Type("ref"), refers_to=value.refers_to, room="lit< tt"))
     if kind == "slice" and len(steps) == 2:
-        pointer = f"(look-in ! {walk.position(source, state)} (sub ! 0 refl (whole !)))"
+        pointer = f"(look_in ! {walk.position(source, state)} (sub ! 0 refl (whole !)))"
         reference = Value(Type("ref"), refers_to=value.refers_to, room=value.room)
         return Step(f"(addr ! (from ! (fld ! refl (hop ! {pointer} (stop !)))))", reference)
     raise Refused("a reference to something other than a whole slice or a whole local array")

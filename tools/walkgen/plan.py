@@ -15,7 +15,7 @@ class Value:
                  tag_of=None):
         self.type, self.term, self.proof = type_, term, proof
         self.fields, self.variant, self.front, self.tag_of = fields, variant, front, tag_of
-        self.refers_to, self.room = refers_to, room or refers_to and f"room-{refers_to} .0"
+        self.refers_to, self.room = refers_to, room or refers_to and f"room-{refers_to}.0"
 
     @property
     def relation(self):
@@ -35,7 +35,7 @@ class Value:
         if kind == "slice":
             return f"(tt, (tt, (record {{ fits = {self.room} }}, tt)))"
         term = enclosed(self.term)
-        return f"({self.type.lawful} {term} ({self.type.law('vals')} {term}) {enclosed(self.proof)} .0)"
+        return f"({self.type.lawful} {term} ({self.type.law('vals')} {term}) {enclosed(self.proof)}).0"
 
 
 class Slice:
@@ -54,7 +54,7 @@ class Slice:
             self.lifetime, self.share = f"κ{mark}", f"q{mark}"
         else:
             self.block, self.offset, self.ghost = f"l{mark}", "0", f"δ′{mark}"
-            self.lifetime, self.share = f"(ν′{mark} ∷ [])", "fullShare"
+            self.lifetime, self.share = f"(ν′{mark} ∷ [])", "full_share"
 
     def copy(self):
         other = Slice(self.name, self.type, self.index, self.local, self.length, self.same_length)
@@ -63,15 +63,16 @@ class Slice:
 
     @property
     def machine_value(self):
-        return f"sliceVal ({self.block}, {self.offset}) {enclosed(self.length)}"
+        return f"slice_val ({self.block}, {self.offset}) {enclosed(self.length)}"
 
     @property
     def owned(self):
         """The slice as an item of the context."""
         kind, number = "MutSlice" if self.type.mutable else "ShrSlice", self.index or 0
-        reference = f"ref {self.block} {self.offset} {self.ghost} {self.list}"
-        owner = f"{kind} (named {number}) {self.lifetime} {self.type.element.row}"
-        return f"‵ ({owner} .own ({reference}) ({self.machine_value} ∷ []))"
+        place = f"{self.block} {self.offset}"
+        reference = f"ref {place} {self.ghost} {self.list}" if self.type.mutable else f"seen {place} {self.list}"
+        owner = f"({kind} (named {number}) {self.lifetime} {self.type.element.row})"
+        return f"‵ ({owner}.own_val ({reference}) ({self.machine_value} ∷ []))"
 
 
 class State:

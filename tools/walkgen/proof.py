@@ -2,11 +2,11 @@
 import combinators
 from parameters import Parameter
 from script import Context
-from terms import kebab, list_of, part, subscript, tuple_of
+from terms import list_of, part, subscript, tuple_of
 
-GIVEN = "(𝓤 : URA M) (H : Heap 𝓤) (A : Atoms 𝓤) (W : Given 𝓤 H A) (mem : Memory → SProp 𝓤) (run : Routine → Fun 𝓤)"
-RUNS = "(WpFn 𝓤 H (𝓣 .C) (𝓣 .Λ) code.function)"
-TABLES = "(tables 𝓤 H 𝓜 𝓡 code.env .C) (tables 𝓤 H 𝓜 𝓡 code.env .Λ)"
+GIVEN = "{𝓤 : Ura M} (𝓛 : Logic 𝓤) (mem : Memory → SProp 𝓤) (run : Routine → Fun 𝓤)"
+RUNS = "(WpFn 𝓤 𝓛.H 𝓣.C 𝓣.Λ code.function)"
+TABLES = "(tables 𝓤 𝓛.H 𝓜 𝓡 𝓡.env)"
 
 
 def first_line(function):
@@ -20,9 +20,9 @@ class Proof:
 
     def __init__(self, walk):
         self.walk, self.function, self.sources = walk, walk.function, walk.sources
-        self.name = kebab(walk.function.name)
+        self.name = walk.function.name
         self.face = f"{walk.sources.tag(walk.function)}-F"
-        self.clauses = f"({self.face}.clauses 𝓤 H A mem run)"
+        self.clauses = f"({self.face}.clauses 𝓛 mem run)"
         self.parameters, slices = [], 0
         for index, (name, type_) in enumerate(walk.parameters):
             self.parameters.append(Parameter(name, type_, index, slices))
@@ -54,14 +54,15 @@ class Proof:
         """The `use` lines of the combinators, of the callees and of the function itself."""
         own = self.sources.modules(self.sources.crate, "proofs")
         steps = sorted({combinators.name_of(shape) for shape in self.walk.shapes})
-        lines = [f"{self.sources.library}Calls.{{contractOf, {', '.join(steps)}}}"]     # `use ..Calls.{}`, if there is no call
+        lines = [f"{self.sources.library}Calls.{{contract_of, {', '.join(steps)}}}"]     # `use ..Calls.{}`, if there is no call
         for callee in self.walk.callees:
+            contract = f"{self.sources.modules(callee.crate, 'specs')}contracts.{callee.dotted}"
             module = self.sources.modules(callee.crate, "proofs") + callee.dotted
             tag, symbol = self.sources.tag(callee), self.sources.symbol(callee)
-            lines += [f"{module} as {tag}-F", f"{module}.Symbol as {tag}-def"]
-            lines += [f"{module}.Symbol.{{name as {symbol}}}", f"{module}.Met as {tag}-thm"]
+            lines += [f"{contract} as {tag}-F", f"{module}.Symbol.{{name as {symbol}}}", f"{module}.Met as {tag}-thm"]
+        contract = f"{self.sources.modules(self.sources.crate, 'specs')}contracts.{self.function.dotted}"
         module, symbol = own + self.function.dotted, self.sources.symbol(self.function)
-        lines += [f"{module}.Key.{{name as {symbol}}}", f"{module} as {self.face}"]
+        lines += [f"{contract}.Key.{{name as {symbol}}}", f"{contract} as {self.face}"]
         return lines + [f"{module}.Statement as stated", f"{module}.Code as code"]
 
     # ---- what the walk starts from
@@ -75,26 +76,26 @@ class Proof:
         argument_type = "Unit {0}"
         for each in reversed(self.parameters):
             argument_type = f"{each.argument_type} × ({argument_type})"
-        walked = f"walkOf 𝓤 H A {self.face}.ended stayed {self.clauses}"
+        walked = f"walk_of 𝓛 {self.face}.ended stayed {self.clauses}"
         return [
-            f"abbrev stayed : Stays ({self.face}.ended .signature .params) ({self.face}.ended .kept)",
+            f"abbrev stayed : Stays {self.face}.ended.signature.params {self.face}.ended.kept",
             f"stayed = {tuple_of([each.stays for each in self.parameters])}",
             "",
             f"module _ {' '.join(given)} where",
             "  abbrev Arg : Type 0",
             f"  Arg = {argument_type}",
             "",
-            "  abbrev args-of : Arg",
-            f"  args-of = {tuple_of([each.argument for each in self.parameters])}",
+            "  abbrev args_of : Arg",
+            f"  args_of = {tuple_of([each.argument for each in self.parameters])}",
             "",
-            f"  abbrev vals-of : Vals {self.face}.signature {self.lifetimes}",
-            f"  vals-of = {tuple_of([f'{each.machine_value} ∷ []' for each in self.parameters])}",
+            f"  abbrev vals_of : Vals {self.face}.signature {self.lifetimes}",
+            f"  vals_of = {tuple_of([f'{each.machine_value} ∷ []' for each in self.parameters])}",
             "",
-            f"  abbrev bound-of : {walked} .Ghost",
-            f"  bound-of = (({self.lifetimes}, {self.shares}, tt, args-of, vals-of), tt)",
+            f"  abbrev bound_of : ({walked}).Ghost",
+            f"  bound_of = (({self.lifetimes}, {self.shares}, tt, args_of, vals_of), tt)",
             "",
             "  abbrev Post : Val → SProp 𝓤",
-            f"  Post = {walked} .post bound-of",
+            f"  Post = ({walked}).post bound_of",
             "",
         ]
 
@@ -120,11 +121,11 @@ class Proof:
         signature = "".join(f"{each} → " for each in ([" ".join(variables)] if variables else []) + facts)
         last = tuple_of([each.on_exit if each.is_changed else "tt" for each in self.parameters])
         lengths = tuple_of([f"n-{each.on_exit}" if each.is_changed else "tt" for each in self.parameters])
-        ends = f"ends-at 𝓤 H A {self.face}.ended stayed {self.clauses} W bound-of {answer} {last} {lengths}"
+        ends = f"ends_at 𝓛 {self.face}.ended stayed {self.clauses} bound_of {answer} {last} {lengths}"
         return [
-            f"  exits : {signature}ent 𝓤 (⋆ 𝓤 H A ({context})) (Post {value})",
+            f"  exits : {signature}ent 𝓤 (⋆ 𝓛 ({context})) (Post {value})",
             f"  {' '.join(['exits', *names])} =",
-            f"      qed W ({context}) ∵",
+            f"      qed 𝓛 ({context}) ∵",
             f"      suffices ! _ ({ends}) $ {said}",
             f"      {self.gathered()}",
             "",
@@ -151,13 +152,13 @@ class Proof:
                 text += "nothing ! $ fjoin ! $ "
         row = self.result.row
         result = f"owned ! {row} (Is {row}) ({self.result.makes}) r _ is" if self.has_result else (
-            "feqI ! (List Val) (vunit ∷ []) (vunit ∷ []) refl")
+            "feq_i ! (List Val) (vunit ∷ []) (vunit ∷ []) refl")
         return f"{text}frame ! $ {result} $ done !"
 
     # ---- the walk
     def contract_of(self, callee):
         tag, symbol = self.sources.tag(callee), self.sources.symbol(callee)
-        return f"Triple 𝓤 (𝓣 .C {symbol}) (contractOf 𝓤 H A {tag}-F.ended ({tag}-F.clauses 𝓤 H A mem run))"
+        return f"Triple 𝓤 (𝓣.C {symbol}) (contract_of 𝓛 {tag}-F.ended ({tag}-F.clauses 𝓛 mem run))"
 
     def steps(self):
         """The walk: its statement, the way into the function's body, and the steps."""
@@ -166,11 +167,11 @@ class Proof:
         facts = [(name, statement) for _, name, statement in self.walk.parameter_facts()]
         if self.walk.requires:
             facts.append(("req", self.walk.requires))
-        entry = f"onEntry 𝓤 H A {self.face}.signature {self.lifetimes} {self.shares} args-of vals-of"
-        goal = f"WpFn 𝓤 H (𝓣 .C) (𝓣 .Λ) code.function ({self.machine_values}) Post"
+        entry = f"on_entry 𝓛 {self.face}.signature {self.lifetimes} {self.shares} args_of vals_of"
+        goal = f"WpFn 𝓤 𝓛.H 𝓣.C 𝓣.Λ code.function ({self.machine_values}) Post"
         *lines, last = [*self.way_in(), *self.walk.script.lines]
         return [
-            f"  module _ (𝓣 : Tables 𝓤 H) (fm : FmC 𝓤 H (W .laws) (𝓣 .C)){known} where",
+            f"  module _ (𝓣 : Tables 𝓤 𝓛.H) (fm : FmC 𝓤 𝓛.H 𝓛.laws 𝓣.C){known} where",
             f"    walk : {''.join(f'{statement} → ' for _, statement in facts)}ent 𝓤 ({entry}) ({goal})",
             f"    {' '.join(['walk', *(name for name, _ in facts)])} =",
             *(f"        {line}" for line in lines),
@@ -183,7 +184,7 @@ class Proof:
         tokens = "‵ ftrue"
         for each in reversed(self.slices):
             tokens = f"({each.token} ⊛ {tokens})"
-        owned = f"‵ (owns ({list_of(each.owned_type for each in self.parameters)}) args-of vals-of)"
+        owned = f"‵ (owns ({list_of(each.owned_type for each in self.parameters)}) args_of vals_of)"
         count = len(self.walk.local_types)
         passed = []
         for each in self.parameters:
@@ -191,7 +192,7 @@ class Proof:
             passed.append(f"pass1 ! (init ! {2 * (count - 2 - each.index)} refl {value.typed}) $")
         heads = "".join(f"{each.name}'s token; {each.name}; " for each in self.slices)
         return [
-            f"qed W ({tokens} ∷ {owned} ∷ []) ∵ enter ! (𝓣 .C) (𝓣 .Λ) code.function ({self.machine_values}) _ $",
+            f"qed 𝓛 ({tokens} ∷ {owned} ∷ []) ∵ enter ! 𝓣.C 𝓣.Λ code.function ({self.machine_values}) _ $",
             " ".join(f"alloc1 ! (λ l{subscript(local)}." for local in range(count)) + " alloc0 ! $ params1 ! $",
             " ".join([*passed, "pass0 ! $"]),
             self.apart(count),
@@ -226,47 +227,41 @@ class Proof:
         known = [f"known-{self.sources.tag(callee)}" for callee in self.walk.callees]
         spelled = tuple_of([each.spelled for each in self.parameters])
         tells = tuple_of([each.tells for each in self.parameters])
-        handed = ["𝓤 H A W mem run"]
-        handed += [f"({part(variable, each.slice_index)})" for variable in ("κs", "qs") for each in self.slices]
-        handed += [each.handed for each in self.parameters] + ["𝓣 (fmOf 𝓤 H (W .laws) 𝓣)", *known]
+        handed = ["𝓛 mem run"]
+        handed += [part(variable, each.slice_index) for variable in ("κs", "qs") for each in self.slices]
+        handed += [each.handed for each in self.parameters] + ["𝓣 (fm_of 𝓤 𝓛.H 𝓛.laws 𝓣)", *known]
         handed += [self.parameters[index].handed_fact for index, _, _ in self.walk.parameter_facts()]
         before = "needs 𝓤 _ _" if self.function.requires else "via 𝓤 _ (fst∗ 𝓤 _ (emp 𝓤))"
         goes = tuple_of([each.goes(len(self.slices)) for each in self.parameters])
-        walks = " ".join([f"{name}-walks 𝓤 H A W mem run 𝓣", *known])
+        walks = " ".join([f"{name}-walks 𝓛 mem run 𝓣", *known])
         return [
             f"module _ {{M : Type 1}} {GIVEN} where",
-            f"  {name}-walks : (𝓣 : Tables 𝓤 H) → {arrows}Walks 𝓤 H A {face}.ended stayed {RUNS} {clauses}",
+            f"  {name}-walks : (𝓣 : Tables 𝓤 𝓛.H) → {arrows}Walks 𝓛 {face}.ended stayed {RUNS} {clauses}",
             f"  {' '.join([f'{name}-walks 𝓣', *known])} =",
-            f"      walked 𝓤 H A {face}.ended stayed {clauses} {RUNS} (λ κs. {spelled}) (λ κs. {tells})",
+            f"      walked 𝓛 {face}.ended stayed {clauses} {RUNS} (λ κs. {spelled}) (λ κs. {tells})",
             f"      (λ κs qs bounds a g are. {before} (walk {' '.join(handed)}))",
             "",
-            f"{name}-meets : {{M : Type 1}} {GIVEN} (𝓣 : Tables 𝓤 H) "
-            f"→ {arrows}Meets 𝓤 H A {face}.signature {RUNS} ({face}.spec 𝓤 H A mem run)",
-            f"{' '.join([f'{name}-meets 𝓤 H A W mem run 𝓣', *known])} =",
-            f"    walk-meets 𝓤 H A {face}.ended stayed W {goes}",
-            f"    {clauses} {RUNS} (WpFn-mono 𝓤 H (W .laws) 𝓣 code.function) ({walks})",
+            f"{name}-meets : {{M : Type 1}} {GIVEN} (𝓣 : Tables 𝓤 𝓛.H) "
+            f"→ {arrows}Meets 𝓛 {face}.signature {RUNS} ({face}.spec 𝓛 mem run)",
+            f"{' '.join([f'{name}-meets {{𝓤 = 𝓤}} 𝓛 mem run 𝓣', *known])} =",
+            f"    walk_Meets 𝓛 {face}.ended stayed {goes}",
+            f"    {clauses} {RUNS} (WpFn-mono 𝓤 𝓛.H 𝓛.laws 𝓣 code.function) ({walks})",
             "",
         ]
 
     def statement(self):
         """What the checker asks for: the callees' theorems are cited, and the function is entered in the table."""
-        name, symbol = self.name, self.sources.symbol(self.function)
+        name, face, symbol = self.name, self.face, self.sources.symbol(self.function)
+        triple = f"(triple_of 𝓛 {face}.signature ({face}.spec 𝓛 𝓜.mem 𝓡.returns))"
         lines = [
-            f"pub {name}-spec : {{M : Type 1}} → stated.statement M",
-            "unfolding code.routine tablesOf",
-            f"{name}-spec 𝓤 H 𝓜 𝓖 𝓡 =",
-            f"    entered 𝓤 H {self.triple(self.face)}",
-            f"    {TABLES} {symbol} code.function (code.unfolded 𝓤 H 𝓜 𝓡)",
-            f"    ({name}-meets 𝓤 H (𝓖 .A) (givenOf 𝓤 H 𝓜 𝓖) (𝓜 .mem) (𝓡 .run) "
-            "(tablesOf 𝓤 H 𝓜 (tables 𝓤 H 𝓜 𝓡 code.env))",
+            f"pub {name}_spec : {{M : Type 1}} → stated.statement M",
+            "unfolding tables_of",
+            f"{name}_spec 𝓤 𝓛 𝓜 𝓡 wired =",
+            f"    entered 𝓤 𝓛.H {triple}",
+            f"    {TABLES}.C {TABLES}.Λ {symbol} code.function (code.unfolded 𝓤 𝓛.H 𝓜 𝓡 wired)",
+            f"    ({name}-meets 𝓛 𝓜.mem 𝓡.returns (tables_of 𝓤 𝓛.H 𝓜 {TABLES})",
         ]
         for callee in self.walk.callees:
-            tag, symbol = self.sources.tag(callee), self.sources.symbol(callee)
-            call = "·".join(kebab(step) for step in [callee.crate, *callee.module, callee.name])
-            lines.append(f"    (cited 𝓤 H {self.triple(f'{tag}-F')} 𝓜 𝓡 code.env {symbol} {tag}-def.routine "
-                         f"code.calls-{call} ({tag}-thm.met 𝓤 H 𝓜 𝓖 𝓡))")
+            call = f"code.calls-{callee.path} 𝓡.env wired"
+            lines.append(f"    ({self.sources.tag(callee)}-thm.met 𝓤 𝓛 𝓜 𝓡 ({call}))")
         return [*lines[:-1], f"{lines[-1]})"]
-
-    @staticmethod
-    def triple(face):
-        return f"(tripleOf 𝓤 H (𝓖 .A) {face}.signature ({face}.spec 𝓤 H (𝓖 .A) (𝓜 .mem) (𝓡 .run)))"

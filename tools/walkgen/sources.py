@@ -8,14 +8,12 @@ from dataclasses import dataclass, field
 
 import texts
 from refusal import Refused
-from terms import kebab
 
 STRUCT = re.compile(r"\bstruct (\w+)\s*\{([^}]*)\}")
 VARIANT = re.compile(r"(\w+)\s*(?:\((.*)\)|(\{.*\}))?", re.S)
 FUNCTION = re.compile(
     r"\bfn (\w+)\s*(?:<[^>]*>)?\s*\(([^)]*)\)\s*(?:->\s*([^{}]+?))?\s*(?=\brequires\b|\bensures\b|\bghost\b|\{)")
-REQUIRES = re.compile(r"\s*requires\s*\{\s*⌜(.*?)⌝\s*\}", re.S)
-ENSURES = re.compile(r"\s*ensures\s*\{\s*λ (\S+?)\.\s*⌜(.*?)⌝\s*\}", re.S)
+CLAUSE = re.compile(r"\s*(requires|ensures|ghost)\b(\*?)[^{]*\{", re.S)
 LIBRARY = "mir_walks"       # the crate that has the steps of all walks, and no code
 LOCAL_ARRAY = re.compile(r"\blet\s+(?:mut\s+)?(\w+)\s*(?::[^=;]*(?:;[^=]*)?)?=\s*\[")
 
@@ -45,7 +43,7 @@ class Declaration:
 
 @dataclass
 class Function:
-    """A function's signature and contract. The types of the parameters and of the result are the source's text."""
+    """A function's signature and contract, which calls the answer `result`. Types are the source's text."""
 
     name: str
     crate: str
@@ -54,7 +52,6 @@ class Function:
     result: str
     requires: str = None
     ensures: str = None
-    result_name: str = "_"
     has_other_clauses: bool = False
     local_arrays: list = field(default_factory=list)
 
@@ -105,7 +102,7 @@ class Sources:
     def read_file(self, text, crate, module):
         text = re.sub(r"//[^\n]*", "", text)
         uses = re.findall(r"ghost use ([^;]*);", text)
-        self.ghost_uses[(crate, *module)] = [self.seen_from_here(" ".join(use.split()), crate) for use in uses]
+        self.ghost_uses[(crate, *module)] = [" ".join(use.split()) for use in uses]
         for name, inside in STRUCT.findall(text):
             self.declare(Declaration("struct", name, crate, module, fields_of(inside)))
         for name, inside, _, _ in blocks_of(text, "enum"):
@@ -121,16 +118,11 @@ class Sources:
     def declare(self, declaration):
         self.declarations[declaration.path] = declaration
 
-    def seen_from_here(self, use, crate):
-        """A `use` of a crate's source, with the crate's own modules by the path that they have here."""
-        for part in ("specs", "proofs"):
-            use = use.replace(f"Rattle·{crate}·{part}.{part}.", self.modules(crate, part))
-        return use
-
     # ---- finding
-    def modules(self, crate, part):
-        """The path to a crate's specs or proofs: its own by the library, another's through its facade."""
-        return f"Rattle·{crate}·{part}.{part}." if crate == self.crate else f"Rattle·{crate}.{part}."
+    @staticmethod
+    def modules(crate, part):
+        """The path to a crate's specs or proofs."""
+        return f"Rattle.{crate}.{part}."
 
     @property
     def library(self):
@@ -182,12 +174,12 @@ class Sources:
         """A function's name in a proof: with its path where two functions have one name."""
         alone = sum(other.name == function.name for other in self.functions.values()) == 1
         if alone or function.crate == self.crate and not function.module:
-            return kebab(function.name)
-        return "-".join(kebab(step) for step in function.path.split("::"))
+            return function.name
+        return "-".join(function.path.split("::"))
 
     def symbol(self, function):
         """What a proof calls the symbol of a function."""
-        return f"#{function.crate}·{self.tag(function)}"
+        return f"#{self.tag(function)}"
 
 
 def read_crates(path):
@@ -210,12 +202,11 @@ def module_of(file):
 
 # ---- parts of a source file
 def fields_of(text):
-    """[(field, type)]; a name with an underscore stands in « » in a proof."""
+    """[(field, type)]"""
     found = []
     for part in split_at_commas(text):
         name, _, type_ = re.sub(r"^pub(\([^)]*\))?\s+", "", part).partition(":")
-        name = name.strip()
-        found.append((f"«{name}»" if "_" in name else name, type_.strip()))
+        found.append((name.strip(), type_.strip()))
     return found
 
 
@@ -230,27 +221,18 @@ def function_of(match, behind, crate, module):
     parameters = [part.partition(":") for part in split_at_commas(match.group(2))]
     parameters = [(re.sub(r"^mut\s+", "", name.strip()), type_.strip()) for name, _, type_ in parameters]
     function = Function(match.group(1), crate, module, parameters, (match.group(3) or "()").strip())
-    requires = REQUIRES.match(behind)
-    if requires:
-        function.requires = clause_of(requires.group(1), parameters)
-        behind = behind[requires.end():]
-    ensures = ENSURES.match(behind)
-    if ensures:
-        function.result_name, function.ensures = ensures.group(1), clause_of(ensures.group(2), parameters)
-        behind = behind[ensures.end():]
-    function.has_other_clauses = bool(re.match(r"\s*(requires|ensures|ghost)\b", behind))
+    for clause in iter(lambda: CLAUSE.match(behind), None):
+        kind, starred = clause.groups()
+        end = end_of_block(behind, clause.end())
+        if kind == "ghost" or starred or getattr(function, kind):
+            function.has_other_clauses = True
+        else:
+            setattr(function, kind, " ".join(behind[clause.end():end - 1].split()))
+        behind = behind[end:]
     body = re.match(r"\s*\{", behind)
     if body:
         function.local_arrays = LOCAL_ARRAY.findall(behind[:end_of_block(behind, body.end())])
     return function
-
-
-def clause_of(text, parameters):
-    """A clause on one line, with the parameters' names bare: one with an underscore is `«row_at»` in the source."""
-    text = " ".join(text.split())
-    for name, _ in parameters:
-        text = text.replace(f"«{name}»", name)
-    return text
 
 
 def end_of_block(text, start):

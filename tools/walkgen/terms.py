@@ -2,17 +2,12 @@
 import re
 
 TOKEN = re.compile(r"\s+|[()\[\]{},;]|[^\s()\[\]{},;]+")
-LIST_IN_CLAUSE = re.compile(r"(?<![^\s(])now (?:\((\w+) \.(entry|exit)\)|(\w+))")
+LIST_IN_CLAUSE = re.compile(r"(?<![^\s(\[{,;])(\w+)\.(now|old|new)(?![\w.'-])")
 SUBSCRIPTS = str.maketrans("0123456789", "₀₁₂₃₄₅₆₇₈₉")
 
 
 def subscript(number):
     return str(number).translate(SUBSCRIPTS)
-
-
-def kebab(name):
-    """A function's name as a proof writes it in the names of its own."""
-    return name.replace("_", "-")
 
 
 def tuple_of(terms, end="tt"):
@@ -29,14 +24,14 @@ def list_of(items):
 
 
 def part(term, index):
-    """The part of a nested tuple at index: `a .1 .1 .0`"""
-    return term + " .1" * index + " .0"
+    """The part of a nested tuple at index: `a.1.1.0`"""
+    return term + ".1" * index + ".0"
 
 
 def enclosed(term):
-    """The term as an argument: in parentheses, unless it is one word or has them already."""
+    """The term as an argument: in parentheses, unless it is one word or has them already; a part of it is no more."""
     term = term.strip()
-    if re.match(r"^[^\s()]+$", term) or stands_in_parentheses(term):
+    if re.match(r"^[^\s()]+$", term) or stands_in_parentheses(re.sub(r"(\.\w+)+$", "", term)):
         return term
     return f"({term})"
 
@@ -60,13 +55,20 @@ def bare(term):
 
 
 def words_of(text):
-    """The words of a text, also those that stand before a binder's dot."""
-    return {token.rstrip(".") for token in TOKEN.findall(text)}
+    """The words of a text, also those that stand before a binder's dot or of which a part is taken."""
+    return {word for token in TOKEN.findall(text) for word in (token.rstrip("."), token.split(".")[0])}
 
 
 def replaced(text, meaning):
-    """The text with each word that meaning has replaced by what it means."""
-    return "".join(meaning.get(token, token) for token in TOKEN.findall(text))
+    """The text with each word that meaning has replaced by what it means, also where a part of it is taken."""
+    return "".join(replaced_word(token, meaning) for token in TOKEN.findall(text))
+
+
+def replaced_word(word, meaning):
+    whole, dot, parts = word.partition(".")
+    if dot and parts and whole in meaning:
+        return f"{enclosed(meaning[whole])}.{parts}"
+    return meaning.get(word, word)
 
 
 def binders(variables):
@@ -83,9 +85,8 @@ def binders(variables):
 def clause_at(clause, entry, plain, exits=None, result=None):
     """A contract's clause at given lists and terms.
 
-    entry: the list that each slice has on entry, which `now x` and `now (x .entry)` are. exits: the list that it
-    has on exit, where that is another one. plain: the terms of the other parameters. result: the name that the
-    clause binds, and its term.
+    entry: the list that each slice has on entry, which `x.now` and `x.old` are. exits: the list that it has on exit,
+    `x.new`. plain: the terms of the other parameters. result: the name of the answer, and its term.
     """
     exits = exits or {}
     terms = {name: enclosed(term) for name, term in plain.items()}
@@ -93,9 +94,11 @@ def clause_at(clause, entry, plain, exits=None, result=None):
         terms[result[0]] = enclosed(result[1])
     pieces, behind = [], 0
     for match in LIST_IN_CLAUSE.finditer(clause):
-        name, moment = match.group(1) or match.group(3), match.group(2)
+        name, moment = match.groups()
+        if name not in entry:
+            continue
         pieces.append(replaced(clause[behind:match.start()], terms))
-        pieces.append(enclosed(exits.get(name, entry[name]) if moment == "exit" else entry[name]))
+        pieces.append(enclosed(exits.get(name, entry[name]) if moment == "new" else entry[name]))
         behind = match.end()
     text = "".join(pieces) + replaced(clause[behind:], terms)
     text = re.sub(r"\((\([^()]*\))\)", r"\1", text)

@@ -94,13 +94,14 @@ class TypesInUse:
                         "one walk, which imports it by that name: rename one")
 
     def imports(self):
-        """What a proof may import: each type and its variants, and its proved laws as `Fence-T` and `Fence-L`."""
+        """What a proof may import: each type and its variants, and its laws as `Fence-T` and `Fence-L`."""
         lines = []
         for name, declaration in sorted(self.declarations.items()):
             specs = f"{self.sources.modules(declaration.crate, 'specs')}declared.{declaration.dotted}"
+            contract = f"{self.sources.modules(declaration.crate, 'specs')}contracts.{declaration.dotted}"
             proofs = self.sources.modules(declaration.crate, "proofs") + declaration.dotted
-            lines += [f"{specs}.{{{name}}}", f"{proofs} as {name}-T", f"{proofs}.Laws as {name}-L"]
+            lines += [f"{specs}.{{{name}}}", f"{contract} as {name}-T", f"{proofs}.TheLaws as {name}-L"]
             if declaration.kind == "enum":
                 variants = ", ".join(variant for variant, _ in declaration.parts)
-                lines.append(f"{specs}.the-variants.{{{variants}}}")
+                lines.append(f"{specs}.TheVariants.{{{variants}}}")
         return lines

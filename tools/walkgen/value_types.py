@@ -41,7 +41,7 @@ class Type:
     @property
     def row(self):
         """The RattleType."""
-        return {"num": self.name, "bool": "Boolean", "unit": "NoValue"}.get(self.kind, f"{self.name}-T.the-row")
+        return {"num": self.name, "bool": "Boolean", "unit": "NoValue"}.get(self.kind, f"{self.name}-T.the_row")
 
     @property
     def denotation(self):
@@ -56,7 +56,7 @@ class Type:
 
     def law(self, name):
         """A law of a declared type, by its name."""
-        return f"{self.laws}.{name} {self.name}-T.the-type {self.name}-L.the-laws"
+        return f"{self.laws}.{name} {self.name}-T.the_type {self.name}-L.the_laws"
 
     def machine_value(self, term):
         """The machine value of a term."""
@@ -76,69 +76,88 @@ class Type:
     def spelled(self):
         """The machine values of a value, as a function."""
         if self.kind == "num":
-            return f"uint-vals {self.width}"
-        return "bool-vals" if self.kind == "bool" else self.law("vals")
+            return f"uint_vals {self.width}"
+        return "bool_vals" if self.kind == "bool" else self.law("vals")
 
     @property
     def tells(self):
         """That the machine values are those that the type spells."""
         if self.kind == "num":
-            return f"uint-tells {self.width}"
-        return "bool-tells" if self.kind == "bool" else self.law("tells")
+            return f"uint_Tells {self.width}"
+        return "bool_Tells" if self.kind == "bool" else self.law("tells")
 
     @property
     def makes(self):
         """That a value's ownership is made from the fact that it is one."""
         if self.kind == "num":
-            return f"uint-makes 𝓤 H A W {self.width}"
+            return f"uint_Makes 𝓛 {self.width}"
         if self.kind == "bool":
-            return "bool-makes 𝓤 H A W"
+            return "bool_Makes 𝓛"
         if self.kind == "unit":
-            return "nothing-makes 𝓤 H A W"
-        return f"{self.laws}.makes {self.name}-T.the-type {self.name}-L.the-plain 𝓤 H A"
+            return "Nothing-Makes 𝓛"
+        return f"{self.laws}.makes {self.name}-T.the_type {self.name}-L.the_plain 𝓛"
 
     @property
     def lawful(self):
         """That a value's machine value is of the machine's type."""
         if self.kind == "num":
-            return f"uint-lawful 𝓤 H A W {self.width} .typed"
+            return f"(uint_Lawful 𝓛 {self.width}).typed"
         if self.kind == "bool":
-            return "bool-lawful 𝓤 H A W .typed"
+            return "(bool_Lawful 𝓛).typed"
         if self.kind == "unit":
-            return "nothing-lawful 𝓤 H A W .typed"
+            return "(Nothing-Lawful 𝓛).typed"
         has_variants = " tt" if self.kind == "enum" else ""
-        return f"{self.law('lawful')} 𝓤 H A W{has_variants} .typed"
+        return f"({self.law('lawful')} 𝓛{has_variants}).typed"
+
+    # ---- what a `&` to elements of the type holds
+    @property
+    def row_laws(self):
+        """That it can be had twice."""
+        if self.kind == "num":
+            return f"uint_row_laws {self.width}"
+        return f"{self.name}-L.the_row_laws.shr_laws"
+
+    @property
+    def shares(self):
+        """That it can be made of elements which are lent."""
+        if self.kind == "num":
+            return f"(copy_shared {self.name}-field {self.name}-copy).shares _ 𝓤 𝓛"
+        return f"{self.name}-L.the_row_laws.shares 𝓛"
+
+    def within(self, lifetime):
+        """That a lifetime ends before those that a value of the type names."""
+        return f"⊑_static {lifetime}" if self.kind == "num" else f"{self.name}-L.the_within {lifetime}"
 
     # ---- in the machine
     @property
     def cell(self):
         """The machine's type of a local."""
         if self.kind == "num":
-            return f"tyInt {self.width}"
+            return f"ty_int {self.width}"
         if self.kind == "bool":
-            return "tyBool"
+            return "ty_bool"
         if self.kind == "unit":
-            return "tyUnit"
+            return "ty_unit"
         if self.is_declared:
             return f"{self.name}-L.mir"
         if self.kind == "array":
-            return f"tyArray {enclosed(self.element.cell)} {self.length}"
+            return f"ty_array {enclosed(self.element.cell)} {self.length}"
         if self.kind == "ref":
             return self.reference
         if self.kind == "slice":
-            return f"sliceTy ({self.reference})"
+            return f"slice_ty ({self.reference})"
         raise Refused(f"a local of the type {self.name}")
 
     @property
     def reference(self):
         lifetime = self.lifetime if isinstance(self.lifetime, str) else f"(named {self.lifetime[1]})"
-        return f"tyRef {lifetime} {'mut' if self.mutable else 'imm'} {self.element.pointed_to}"
+        return f"ty_ref {lifetime} {'mut' if self.mutable else 'imm'} {self.element.pointed_to}"
 
     @property
     def pointed_to(self):
         """The type behind a reference, in which a declared type stands by its name."""
         if self.is_declared:
-            return f"(pointee ({self.name}-T.the-row .written))"
+            return f"(pointee {self.name}-T.the_row.written)"
         if self.kind == "array":
-            return f"(tyArray {self.element.pointed_to} {self.length})"
+            return f"(ty_array {self.element.pointed_to} {self.length})"
         return f"({self.cell})"

@@ -16,7 +16,7 @@ from names import Names
 from plan import Behind, Slice, State, Value
 from refusal import Refused
 from script import Script
-from terms import clause_at
+from terms import clause_at, enclosed
 from types_in_use import TypesInUse
 
 
@@ -66,12 +66,12 @@ class Walk:
         self.requires = function.requires and self.own_clause(function.requires)
 
     def proof_name(self, name):
-        return f"{name}′" if self.names.are_reserved(name) else name
+        return f"{name}'" if self.names.are_reserved(name) else name
 
     def own_clause(self, text, exits=None, result=None):
         """A clause of the function's own contract; exits: {slice: list on exit}, result: the result's term."""
         function, names = self.function, self.proof_names
-        bound = (function.result_name, result) if result and function.result_name != "_" else None
+        bound = ("result", result) if result else None
         exits = {name: exits[other] for name, other in names.items() if other in exits} if exits else {}
         return clause_at(self.names.clause(function, text), names, names, exits, bound)
 
@@ -137,7 +137,7 @@ class Walk:
             self.skip(state, behind)
         elif kind == "call":
             calls.Call(self, statement, rest, state, behind).write()
-        elif kind == "if":
+        elif kind == "cond":
             self.test(statement, rest, state, behind)
         elif kind == "switch":
             self.match(statement, rest, state, behind)
@@ -165,15 +165,15 @@ class Walk:
             self.script.write(f"assigns ! {text} {store}")
             self.run(rest, state, behind)
         elif behind.ends_turn:
-            self.script.write(f"assigns-again ! {self.loop.below} {text} {store}")
+            self.script.write(f"assigns_again ! {self.loop.below} {text} {store}")
             self.loop.end_turn(state)
         else:
-            self.go_on(f"assigns-last ! {text} {store} ", state, behind)
+            self.go_on(f"assigns_last ! {text} {store} ", state, behind)
 
     def skip(self, state, behind):
         """The end of an arm that does nothing more."""
         if behind.ends_turn:
-            self.script.write(f"skips-again ! {self.loop.below} $")
+            self.script.write(f"skips_again ! {self.loop.below} $")
             self.loop.end_turn(state)
         else:
             self.go_on("skips ! $ ", state, behind)
@@ -191,7 +191,7 @@ class Walk:
         text, value, _ = operands.operand(self, condition, state)
         number = self.number("test")
         fact, rule = f"h{number}", f"on{number}"
-        outcomes = (f"T ({value.term})", f"T (not ({value.term}))")
+        outcomes = (f"T {enclosed(value.term)}", f"T (not {enclosed(value.term)})")
         self.author.note(fact, f"{outcomes[0]} on the first arm, {outcomes[1]} on the second")
         if rest:
             head, binder, behind_arm = "tests", f"(λ {fact} {rule}.", behind.arm(rest, rule)
@@ -219,5 +219,5 @@ class Walk:
             self.run(mir.statements(body), state, behind.arm(rest, rule))
             self.script.close()
         else:
-            self.script.write(f"matches-last ! {text} tt $")
+            self.script.write(f"matches_last ! {text} tt $")
             self.run(mir.statements(body), state, behind.last_arm())

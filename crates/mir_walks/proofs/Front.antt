@@ -1,8 +1,8 @@
 -- The first records of a slice, `&mut s[..m]`, that a walk lends for one call, and has back after it. The file is written by walkgen.
 --     front                    the first m of a list
 --     refronted                the list with others in their place
---     front-size, front_length     their lengths
---     lend_front, back-front   the first m of a `&mut [R]` lent again as `&mut [R]`; they come back at the callee's last list, before the others
+--     front_size, front_length     their lengths
+--     lend_front, back_front   the first m of a `&mut [R]` lent again as `&mut [R]`; they come back at the callee's last list, before the others
 -- The context before a loan is [token; slice; …], and while it lasts [the callee's token; the callee's slice; what is kept; …].
 -- Assumes `Logic`.
 use mathlib.Core.Path.{◌≡◌, refl, sym, ◌∙◌, ap, subst}
@@ -11,7 +11,7 @@ use mathlib.Core.List.{List, [], ◌∷◌, ◌++◌}
 use lib.ListN.{length, take, drop as drop-list, take-append-drop}
 use lib.Seq.{length-take-le}
 use seplogic.Ra.Ura.{Ura}
-use seplogic.Ra.TreeShare.{full_share}
+use base.Fraction.{full_share}
 use mir.Syntax.{named}
 use mir.Val.{Val}
 use base.Logic.{ent, sep, ex}
@@ -38,11 +38,11 @@ front m ys = take m ys
 abbrev pub refronted : {X : Type 0} → ℕ → List X → List X → List X
 refronted m ys zs = zs ++ drop-list m ys
 
-pub front-size : {X : Type 0} (m : ℕ) (ys : List X) (n : ℕ) → length ys ≡ n → m ≤ n → length (front m ys) ≡ m
-front-size m ys n en le = length-take-le m ys (subst (λ (k : ℕ). m ≤ k) (sym en) le)
+pub front_size : {X : Type 0} (m : ℕ) (ys : List X) (n : ℕ) → length ys ≡ n → m ≤ n → length (front m ys) ≡ m
+front_size m ys n en le = length-take-le m ys (subst (λ (k : ℕ). m ≤ k) (sym en) le)
 
 pub front_length : {X : Type 0} (m : ℕ) (ys : List X) (n : ℕ) → length ys ≡ n → m ≤ n → (zs : List X) → length zs ≡ m → length (refronted m ys zs) ≡ n
-front_length m ys n en le zs e = same_len m ys zs (e ∙ sym (front-size m ys n en le)) ∙ en
+front_length m ys n en le zs e = same_len m ys zs (e ∙ sym (front_size m ys n en le)) ∙ en
 
 module _ (R : RattleType) (κ κ' : Lft) (q : Share) (γ : GName) (b o : ℕ) where
   -- where the others begin
@@ -73,9 +73,9 @@ module _ (R : RattleType) (κ κ' : Lft) (q : Share) (γ : GName) (b o : ℕ) wh
         at_once ! $ show ! (λ (γ' : GName). sep 𝓤 (sem 𝓛 ((MutSlice (named 0) κ' R).own_val (ref b o γ' (front m ys)) (vals (front m ys)))) (sem 𝓛 (LentFront γ' m ys))) γ₁ $ frame ! $
         move ! (3 ∷ 4 ∷ []) $ fjoin ! $ move ! (3 ∷ 0 ∷ []) $ fjoin ! $ move ! (2 ∷ 0 ∷ []) $ fjoin ! $ move ! (1 ∷ 0 ∷ []) $ fjoin ! $ done !))
 
-    pub front-back : (γ₁ : GName) (zs : List R.Denot) → Room R (length ys) → length zs ≡ length (front m ys)
+    pub front_back : (γ₁ : GName) (zs : List R.Denot) → Room R (length ys) → length zs ≡ length (front m ys)
         → ent 𝓤 (sep 𝓤 (A.dead κ') (sep 𝓤 (sem 𝓛 (LentFront γ₁ m ys)) (sem 𝓛 (finally R γ₁ zs)))) (H.⇛ (sep 𝓤 (sem 𝓛 ((MutSlice (named 0) κ R).own_val (ref b o γ (refronted m ys zs)) (vals ys))) (A.lft κ q)))
-    front-back γ₁ zs room e =
+    front_back γ₁ zs room e =
         qed 𝓛 (‵ (fdead κ') ∷ ‵ (LentFront γ₁ m ys) ∷ ‵ (finally R γ₁ zs) ∷ []) ∵ updating ! $ move ! (1 ∷ []) $ fsplit ! $ move ! (2 ∷ 0 ∷ 3 ∷ []) $
         use3 𝓛 (later (‵ ((Arr (mem R) (length (front m ys))).own_at zs b o))) (slice_back 𝓛 R κ' γ₁ zs (length (front m ys)) b o) $ await ! tt $ fsplit ! $ drop ! $
         -- [the first ones; the others with the open borrow]
@@ -92,10 +92,10 @@ module _ {M : Type 1} {𝓤 : Ura M} {𝓛 : Logic 𝓤} {K : Type 0} {Γ : List
       move t (1 ∷ []) $ rewrite t 0 (λ (j : ℕ). ‵ ((MutSlice (named 0) κ R).own_val (ref b o γ ys) (slice_val (b, o) j ∷ []))) (sym en) refl $
       peeks t (MutSlice (named 0) κ R) (Is (MutSlice (named 0) κ R)) (shows 𝓛 (MutSlice (named 0) κ R)) (ref b o γ ys) (slice_val (b, o) (length ys) ∷ []) (λ has. lft_new t s (λ ν. move t (1 ∷ 2 ∷ []) $
       use2 𝓛 (later (some (λ (δ : GName). ‵ ((MutSlice (named 0) (ν ∷ []) R).own_val (ref b o δ (front m ys)) (slice_val (b, o) (length (front m ys)) ∷ [])) ⊛ ‵ (LentFront R κ (ν ∷ []) q γ b o δ m ys)))) (lends_front R κ (ν ∷ []) q γ b o 𝓛 m ys) $ await t s $ pick t (λ δ. split t $
-      rewrite t 0 (λ (j : ℕ). ‵ ((MutSlice (named 0) (ν ∷ []) R).own_val (ref b o δ (front m ys)) (slice_val (b, o) j ∷ []))) (front-size m ys n en le) refl $ move t (2 ∷ 0 ∷ []) $ k ν δ has.0.1)))
+      rewrite t 0 (λ (j : ℕ). ‵ ((MutSlice (named 0) (ν ∷ []) R).own_val (ref b o δ (front m ys)) (slice_val (b, o) j ∷ []))) (front_size m ys n en le) refl $ move t (2 ∷ 0 ∷ []) $ k ν δ has.0.1)))
 
-  pub back-front : K → Soaks G → (R : RattleType) {κ : Lft} {q : Share} (b o : ℕ) (γ : GName) (ys : List R.Denot) (n : ℕ) → length ys ≡ n → (m : ℕ) (ν : ℕ) (δ : GName) → Room R (length ys) → (zs : List R.Denot) → length zs ≡ length (front m ys)
+  pub back_front : K → Soaks G → (R : RattleType) {κ : Lft} {q : Share} (b o : ℕ) (γ : GName) (ys : List R.Denot) (n : ℕ) → length ys ≡ n → (m : ℕ) (ν : ℕ) (δ : GName) → Room R (length ys) → (zs : List R.Denot) → length zs ≡ length (front m ys)
       → Seq K 𝓛 (‵ (flft κ q) ∷ ‵ ((MutSlice (named 0) κ R).own_val (ref b o γ (refronted m ys zs)) (slice_val (b, o) n ∷ [])) ∷ Γ) G → Seq K 𝓛 (‵ (flft (ν ∷ []) full_share) ∷ ‵ (LentFront R κ (ν ∷ []) q γ b o δ m ys) ∷ ‵ (finally R δ zs) ∷ Γ) G
-  back-front t s R {κ} {q} b o γ ys n en m ν δ room zs l k =
-      lft_end t s $ use3 𝓛 (later (‵ ((MutSlice (named 0) κ R).own_val (ref b o γ (refronted m ys zs)) (slice_val (b, o) (length ys) ∷ [])) ⊛ ‵ (flft κ q))) (front-back R κ (ν ∷ []) q γ b o 𝓛 m ys δ zs room l) $ await t s $ split t $
+  back_front t s R {κ} {q} b o γ ys n en m ν δ room zs l k =
+      lft_end t s $ use3 𝓛 (later (‵ ((MutSlice (named 0) κ R).own_val (ref b o γ (refronted m ys zs)) (slice_val (b, o) (length ys) ∷ [])) ⊛ ‵ (flft κ q))) (front_back R κ (ν ∷ []) q γ b o 𝓛 m ys δ zs room l) $ await t s $ split t $
       rewrite t 0 (λ (j : ℕ). ‵ ((MutSlice (named 0) κ R).own_val (ref b o γ (refronted m ys zs)) (slice_val (b, o) j ∷ []))) en refl $ move t (1 ∷ 0 ∷ []) $ k

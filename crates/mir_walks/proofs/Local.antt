@@ -8,7 +8,7 @@ use Prim.Native.Nat.{ℕ, zero, suc}
 use mathlib.Core.List.{List, [], ◌∷◌}
 use lib.ListN.{length, replicate, length-replicate}
 use seplogic.Ra.Ura.{Ura}
-use seplogic.Ra.TreeShare.{full_share}
+use base.Fraction.{full_share}
 use mir.Syntax.{named, ty_array}
 use mir.Val.{Val}
 use base.Logic.{ent, sep, ex}
@@ -33,7 +33,7 @@ use denote.Struct.Steps.{spelt}
 use Rattle.mir_walks.proofs.Lend.{ref}
 
 module _ (R : RattleType) where
-  each_repeats : (n : ℕ) (x : R.Denot) (u : Val) → Is R x (u ∷ []) → shadow (each R.Denot R.own (replicate n x) (replicate n u))
+  each_repeats : (n : ℕ) (x : R.Denot) (u : Val) → Is R x (u ∷ []) → shadow (each R.Denot R.own_val (replicate n x) (replicate n u))
   each_repeats zero x u is = tt
   each_repeats (suc n) x u is = (is, each_repeats n x u is)
 
