@@ -31,7 +31,7 @@ def name_of(shape):
 def shapes_named(text):
     """The shapes whose combinators a text names."""
     letters = {word: letter for letter, word in LETTERS.items()} | {"plain": "", "last": "+"}
-    return {"".join(letters[word] for word in name.split("_")) for name in re.findall(r"\bcalls_([a-z_]+)", text)}
+    return {"".join(letters[word] for word in name.split("_")) for name in re.findall(r"\bcalls_([a-z_]+)(?![\w-])", text)}
 
 
 def file_text(template, shapes):

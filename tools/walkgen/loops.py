@@ -94,7 +94,7 @@ class Loop:
         if mir.kind_of(inner) != "loop":
             raise Refused(
                 "a block that is no loop, as a test of two parts makes (`a && b`, `a || b`): nest the `if`s, or let a "
-                "covered function answer the bool")
+                "function of its own answer the bool")
         statements = mir.statements(inner[1])
         self.test, self.turn = statements[0], statements[2:]
         if not (is_test(self.test) and self.turn and mir.kind_of(statements[1]) == "cond" and statements[1][2] == "skip"):

@@ -72,7 +72,7 @@ def loaded(walk, place, state, ahead):
             part = f"(in_variant ! {step[1]} {index - 1} refl refl {part})"
             value = value.fields[index - 1]
         else:
-            raise Refused(f"a place with the step {step[0]}: let a covered function do this")
+            raise Refused(f"a place with the step {step[0]}: let another function do this")
     way = "(stop !)"
     for hop in reversed(hops):
         way = f"({hop} {way})"
@@ -121,7 +121,7 @@ def binary(walk, tree, local, state):
     operation = mir.kind_of(tree[1])
     forms = {**TESTS, **ARITHMETIC}
     if operation not in forms or "signed" in tree[1] or left.type.kind != "num":
-        raise Refused(f"the operation {operation} in a walked function: let a covered function do it")
+        raise Refused(f"the operation {operation} in a walked function: let another function do it")
     term = forms[operation].format(enclosed(left.term), enclosed(right.term))
     if operation in TESTS:
         return Step(f"(bin ! {left_text} {right_text} tt)", Value(Type("bool"), term, "refl"))
@@ -151,7 +151,7 @@ def unary(walk, tree, local, state):
         else:
             fits = walk.author.proves(f"fits.{walk.number('fit')}", f"{value.term} < 2 ^ {after}", state.scope)
         return Step(f"(un ! {text} (record {{ fits = {fits} }}))", Value(walk.local_types[local], value.term, fits))
-    raise Refused(f"the operation {mir.shown(operation)} in a walked function: let a covered function do it")
+    raise Refused(f"the operation {mir.shown(operation)} in a walked function: let another function do it")
 
 
 def address(walk, tree, local, state):
@@ -185,7 +185,7 @@ def aggregate(walk, tree, local, state):
         name, _ = walk.types.variants(type_.name)[variant]
         return built(walk, text, type_, " ".join([name, *(enclosed(value.term) for value in values)]), values, variant)
     raise Refused(
-        "an array or a tuple that is written out, as `[1, 2]`: begin with `[0; 2]`, and let a covered function fill it")
+        "an array or a tuple that is written out, as `[1, 2]`: begin with `[0; 2]`, and let another function fill it")
 
 
 def reference_of(pointer, count, type_, state):

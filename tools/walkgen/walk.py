@@ -150,7 +150,7 @@ class Walk:
         _, place, right = statement
         local = mir.local_of(place)
         if mir.items(place[2]):
-            raise Refused("a store to a part of a local: build the struct anew in a covered function")
+            raise Refused("a store to a part of a local: build the struct anew in another function")
         if right[0] == "repeat":
             arrays.make(self, local, right, rest, state, behind)
             return

@@ -1,3 +1,3 @@
-// The steps of walks: what the proofs of functions over slices of records cite, written by tools/walkgen for
-// the shapes of calls that are in use. There is no code here.
+// The steps of walks: what a proof by hand of a function over slices of records cites, written by tools/walkgen for
+// the shapes of calls that shapes.txt names and for those of the repository's walks. There is no code here.
 #![tactic(auto)]
