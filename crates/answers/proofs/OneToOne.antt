@@ -33,7 +33,7 @@ back (Refused OutSmall) = refl
 back (Refused BadList) = refl
 back (Refused BadFrame) = refl
 
--- THEOREM: the paper's number and count are one_to_one
+-- THEOREM: the paper's number and count are one-to-one
 pub one_to_one : (a b : Answer) → paper a ≡ paper b → a ≡ b
 one_to_one a b e = sym (back a) ∙ ap (λ (p : Paper). answer_of p.number p.count) e ∙ back b
 

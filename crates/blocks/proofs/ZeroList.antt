@@ -1,4 +1,4 @@
--- The all_zero_lem list: its one word, its groups, and that it is whole and has no ones. Assumes nothing.
+-- The all-zero list: its one word, its groups, and that it is whole and has no ones. Assumes nothing.
 use mathlib.Core.Path.{◌≡◌, refl}
 use mathlib.Core.Bool.{true}
 use mathlib.Core.List.{[], ◌∷◌, append-nil}

@@ -50,6 +50,6 @@ with_update sizes count words block = value_length block ∷ count ∷ (value_wo
 unfoldable pub block_of : Sizes → List ℕ → List ℕ → List ℕ
 block_of sizes value update = length value ∷ length update ∷ (padded (value_room sizes) value ++ padded (update_room sizes) update)
 
--- the all_zero_lem list
+-- the all-zero list
 unfoldable pub zero_list : Sizes → List ℕ
 zero_list sizes = encode (replicate sizes.groups 0)

@@ -35,7 +35,7 @@ pub fn put_update(block: &mut [u32], sizes: Sizes, count: usize, room: &[u32])
     copy(&room[..size], &mut block[from..end]);
 }
 
-// U becomes the all_zero_lem list.
+// U becomes the all-zero list.
 pub fn clear_update(block: &mut [u32], sizes: Sizes)
     requires { Limits sizes × (length block.old ≡ block_size sizes) }
     ensures { block.new ≡ with_update sizes 1 (padded (update_room sizes) (zero_list sizes)) block.old }

@@ -50,7 +50,7 @@ by_answer (Live value) opened = refl
 by_answer Deleted opened = refl
 by_answer (Refused refusal) opened = refl
 
--- THEOREM: the paper of Value's answer is one_to_one
+-- THEOREM: the paper of Value's answer is one-to-one
 pub value-one_to_one : (a b : Value) → value_paper a ≡ value_paper b → a ≡ b
 value-one_to_one a b e =
     let papers = ap {B = Paper} (λ (p : ValuePaper). record { number = p.number; count = p.value }) e in

@@ -1,4 +1,4 @@
--- `merge` leaves V xor U, made in an array of zeros, in V's room, and the all_zero_lem list in U's.
+-- `merge` leaves V xor U, made in an array of zeros, in V's room, and the all-zero list in U's.
 use native.Mathlib.Omega.{arith}
 use borrow.Author.Rules.{rules}
 use Rattle.words.specs.Words.{encode}

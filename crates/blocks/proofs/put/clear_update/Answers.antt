@@ -1,4 +1,4 @@
--- `clear_update` puts a room whose one word is the fill of all groups with 0: the all_zero_lem list.
+-- `clear_update` puts a room whose one word is the fill of all groups with 0: the all-zero list.
 use native.Mathlib.Omega.{arith}
 use Rattle.blocks.proofs.put.Stores.{cleared}
 use Rattle.blocks.proofs.put.clear_update.Goals as goal
