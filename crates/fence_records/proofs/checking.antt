@@ -1,2 +1,2 @@
--- What the walks of Audit's loop use: one turn over the values.
+-- What the answers of Audit's loop use: one turn over the values.
 mod Rounds

@@ -1,2 +1,2 @@
--- What the walks of Dump's loops use: one round of each.
+-- What the answers of Dump's loops use: one round of each.
 pub mod Rounds

@@ -1,2 +1,2 @@
--- What the walks over fences that read rows use: one round of each loop.
+-- What the answers of the functions that read rows use: one round of each loop.
 pub mod Rounds

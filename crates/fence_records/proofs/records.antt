@@ -1,2 +1,2 @@
--- What the walks over fence records use: one round of making them anew and of comparing them.
+-- What the answers of the functions over fence records use: one round of making them anew and of comparing them.
 mod Rounds

@@ -1,2 +1,2 @@
--- What the walks of the calls that change nothing use: each way out.
+-- What the answers of the calls that change nothing use: each way out.
 pub mod Exits

@@ -1,3 +1,3 @@
--- What the walks of the calls that change rows use: each way out, and what is left.
+-- What the answers of the calls that change rows use: each way out, and what is left.
 pub mod Exits
 pub mod Leaving

@@ -1,2 +1,2 @@
--- What the walks that decide use: each way out.
+-- What the answers of the functions that decide use: each way out.
 pub mod Exits
