@@ -1,8 +1,4 @@
 -- `lists_clear` meets its contract: the two answers are those for both lists.
-use mathlib.Core.Path.{◌≡◌}
-use Rattle.groups.specs.Rows.{clear_from}
-use Rattle.words.specs.Words.{decode}
-use Rattle.blocks.specs.Block.{value_list}
 use Rattle.blocks.specs.Audit.{clear_lists}
 use Rattle.blocks.proofs.WholeLists.{whole_parts, value_covers, update_covers}
 use Rattle.audit_value.proofs.audit.Exits.{slice_asks, first_fails, second_decides}
@@ -10,42 +6,33 @@ use Rattle.audit_value.proofs.audit.lists_clear.Goals as goal
 
 pub value_list-requires : goal.value_list-requires
 value_list-requires c =
-    let start = c in
-    (start.requires.0, start.requires.1, (whole_parts start.args.sizes start.args.block.now start.requires.2).value_short)
+    (c.requires.0, c.requires.1, (whole_parts c.args.sizes c.args.block.now c.requires.2).value_short)
 
 pub clear_from-requires : goal.clear_from-requires
 clear_from-requires c =
-    let start = c in
-    let a = start.args in
-    slice_asks a.sizes start.requires.0 a.issued start.requires.3 _ _
-    (value_covers a.sizes start.requires.0 a.block.now start.requires.2) c.value_list.ensures
+    let a = c.args in
+    slice_asks a.sizes c.requires.0 a.issued c.requires.3 _ _
+    (value_covers a.sizes c.requires.0 a.block.now c.requires.2) c.value_list.ensures
 
 pub returns-then-not-clear_from : goal.returns-then-not-clear_from
 unfolding clear_lists
 returns-then-not-clear_from c =
-    let value-told : let a = c.args in c.clear_from.result ≡ clear_from a.issued (decode (value_list a.sizes a.block.now)) =
-    rw c.value_list.ensures at c.clear_from.ensures in
-    let found = c.clear_from.result in
-    first_fails _ _ found (value-told) (c.if-not-clear_from.true)
+    let value-told = rw c.value_list.ensures at c.clear_from.ensures in
+    first_fails _ _ c.clear_from.result value-told c.if-not-clear_from.true
 
 pub update_list-requires : goal.update_list-requires
 update_list-requires c =
-    let start = c in
-    (start.requires.0, start.requires.1, (whole_parts start.args.sizes start.args.block.now start.requires.2).update_short)
+    (c.requires.0, c.requires.1, (whole_parts c.args.sizes c.args.block.now c.requires.2).update_short)
 
 pub clear_from-requires-2 : goal.clear_from-requires-2
 clear_from-requires-2 c =
-    let start = c in
-    let a = start.args in
-    slice_asks a.sizes start.requires.0 a.issued start.requires.3 _ _
-    (update_covers a.sizes start.requires.0 a.block.now start.requires.2) c.update_list.ensures
+    let a = c.args in
+    slice_asks a.sizes c.requires.0 a.issued c.requires.3 _ _
+    (update_covers a.sizes c.requires.0 a.block.now c.requires.2) c.update_list.ensures
 
 pub returns : goal.returns
 unfolding clear_lists
 returns c =
-    let value-told : let a = c.args in c.clear_from.result ≡ clear_from a.issued (decode (value_list a.sizes a.block.now)) =
-    rw c.value_list.ensures at c.clear_from.ensures in
-    let looked = c in
-    let found = looked.clear_from.result in
-    second_decides _ _ found (value-told) (c.if-not-clear_from.false) c.clear_from-2.result
+    let value-told = rw c.value_list.ensures at c.clear_from.ensures in
+    second_decides _ _ c.clear_from.result value-told c.if-not-clear_from.false c.clear_from-2.result
     (rw c.update_list.ensures at c.clear_from-2.ensures)

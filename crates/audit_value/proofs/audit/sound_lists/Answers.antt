@@ -7,30 +7,25 @@ use Rattle.audit_value.proofs.audit.sound_lists.Goals as goal
 
 pub returns-in_default : goal.returns-in_default
 returns-in_default c =
-    let start = c in
-    not-whole start.args.sizes start.args.issued start.args.block.now (sym c.in_default.is ∙ c.check_lists.ensures)
+    not-whole c.args.sizes c.args.issued c.args.block.now (sym c.in_default.is ∙ c.check_lists.ensures)
 
 pub lists_clear-requires : goal.lists_clear-requires
 lists_clear-requires c =
-    let start = c in
-    (start.requires.0, start.requires.1, intact-whole start.args.sizes start.args.block.now c.in-Intact.field-0 (sym c.in-Intact.is ∙ c.check_lists.ensures), omega arith)
+    (c.requires.0, c.requires.1, intact-whole c.args.sizes c.args.block.now c.in-Intact.field-0 (sym c.in-Intact.is ∙ c.check_lists.ensures), omega arith)
 
 pub returns-then-not-lists_clear : goal.returns-then-not-lists_clear
 returns-then-not-lists_clear c =
-    let start = c in
     let clear = c.lists_clear in
-    not_clear start.args.sizes start.args.issued start.args.block.now c.in-Intact.field-0 (sym c.in-Intact.is ∙ c.check_lists.ensures)
-    clear.result clear.ensures (c.if-not-lists_clear.true)
+    not_clear c.args.sizes c.args.issued c.args.block.now c.in-Intact.field-0 (sym c.in-Intact.is ∙ c.check_lists.ensures)
+    clear.result clear.ensures c.if-not-lists_clear.true
 
 pub unused_zero-requires : goal.unused_zero-requires
 unused_zero-requires c =
-    let start = c in
-    (start.requires.0, start.requires.1, intact-whole start.args.sizes start.args.block.now c.in-Intact.field-0 (sym c.in-Intact.is ∙ c.check_lists.ensures))
+    (c.requires.0, c.requires.1, intact-whole c.args.sizes c.args.block.now c.in-Intact.field-0 (sym c.in-Intact.is ∙ c.check_lists.ensures))
 
 pub returns : goal.returns
 returns c =
-    let start = c in
     let clear = c.lists_clear in
-    unused_decides start.args.sizes start.args.issued start.args.block.now c.in-Intact.field-0
+    unused_decides c.args.sizes c.args.issued c.args.block.now c.in-Intact.field-0
     (sym c.in-Intact.is ∙ c.check_lists.ensures) clear.result clear.ensures
-    (c.if-not-lists_clear.false) c.unused_zero.result c.unused_zero.ensures
+    c.if-not-lists_clear.false c.unused_zero.result c.unused_zero.ensures

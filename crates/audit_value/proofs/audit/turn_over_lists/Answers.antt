@@ -6,35 +6,30 @@ use Rattle.audit_value.proofs.audit.turn_over_lists.Goals as goal
 
 pub value_list-requires : goal.value_list-requires
 value_list-requires c =
-    let start = c in
-    (start.requires.0, start.requires.1, (whole_parts start.args.sizes start.args.block.now start.requires.2).value_short)
+    (c.requires.0, c.requires.1, (whole_parts c.args.sizes c.args.block.now c.requires.2).value_short)
 
 pub turn_over_groups-requires : goal.turn_over_groups-requires
 turn_over_groups-requires c =
-    let start = c in
-    value_asks start.args.sizes start.requires.0 start.args.block.now start.requires.2 4096 (few-groups start.args.sizes start.requires.0)
-    _ start.args.groups.now c.value_list.ensures start.requires.3
+    value_asks c.args.sizes c.requires.0 c.args.block.now c.requires.2 4096 (few-groups c.args.sizes c.requires.0)
+    _ c.args.groups.now c.value_list.ensures c.requires.3
 
 pub update_list-requires : goal.update_list-requires
 update_list-requires c =
-    let start = c in
-    (start.requires.0, start.requires.1, (whole_parts start.args.sizes start.args.block.now start.requires.2).update_short)
+    (c.requires.0, c.requires.1, (whole_parts c.args.sizes c.args.block.now c.requires.2).update_short)
 
 pub turn_over_groups-requires-2 : goal.turn_over_groups-requires-2
 turn_over_groups-requires-2 c =
-    let start = c in
     let once = c.turn_over_groups in
-    update_asks start.args.sizes start.requires.0 start.args.block.now start.requires.2 4096 (few-groups start.args.sizes start.requires.0)
-    _ start.args.groups.now c.value_list.ensures start.requires.3
+    update_asks c.args.sizes c.requires.0 c.args.block.now c.requires.2 4096 (few-groups c.args.sizes c.requires.0)
+    _ c.args.groups.now c.value_list.ensures c.requires.3
     once.new.groups once.ensures _ c.update_list.ensures
 
 pub returns : goal.returns
 returns c =
-    let start = c in
     let twice = c.turn_over_groups-2 in
     let update = c.update_list in
     let once = c.turn_over_groups in
     let value = c.value_list in
-    both_turned start.args.sizes start.requires.0 start.args.block.now start.requires.2 4096 (few-groups start.args.sizes start.requires.0)
-    _ start.args.groups.now value.ensures start.requires.3 once.new.groups once.ensures _ update.ensures
+    both_turned c.args.sizes c.requires.0 c.args.block.now c.requires.2 4096 (few-groups c.args.sizes c.requires.0)
+    _ c.args.groups.now value.ensures c.requires.3 once.new.groups once.ensures _ update.ensures
     twice.new.groups twice.ensures

@@ -8,25 +8,23 @@ use Rattle.audit_value.proofs.audit.unused_zero.Goals as goal
 
 pub value_unused-value-requires : goal.value_unused-value-requires
 value_unused-value-requires c =
-    let start = c in
-    (start.requires.0, start.requires.1, (whole_parts start.args.sizes start.args.block.now start.requires.2).value_short)
+    (c.requires.0, c.requires.1, (whole_parts c.args.sizes c.args.block.now c.requires.2).value_short)
 
 pub update_unused-update-requires : goal.update_unused-update-requires
 update_unused-update-requires c =
-    let start = c in
-    (start.requires.0, start.requires.1, (whole_parts start.args.sizes start.args.block.now start.requires.2).update_short)
+    (c.requires.0, c.requires.1, (whole_parts c.args.sizes c.args.block.now c.requires.2).update_short)
 
 pub returns-then-not-all_zero : goal.returns-then-not-all_zero
 unfolding unused_zero
 returns-then-not-all_zero c =
     let value = c.all_zero in
     first_fails _ _ value.result (value.ensures ∙ ap all_zero c.value_unused-value.ensures)
-    (c.if-not-all_zero.true)
+    c.if-not-all_zero.true
 
 pub returns : goal.returns
 unfolding unused_zero
 returns c =
     let value = c.all_zero in
     second_decides _ _ value.result (value.ensures ∙ ap all_zero c.value_unused-value.ensures)
-    (c.if-not-all_zero.false) c.all_zero-2.result
+    c.if-not-all_zero.false c.all_zero-2.result
     (c.all_zero-2.ensures ∙ ap all_zero c.update_unused-update.ensures)

@@ -1,11 +1,9 @@
 -- `audit_lists` meets its contract: sound lists first, and only then the rows. Assumes nothing.
-use mathlib.Core.Path.{◌≡◌, refl, sym, ◌∙◌}
+use mathlib.Core.Path.{◌≡◌, refl, ap, sym, ◌∙◌}
 use mathlib.Core.Bool.{true, false}
 use Prim.Native.Nat.{ℕ}
 use native.Mathlib.Omega.{arith}
 use lib.ListN.{length}
-use Rattle.blocks.specs.Sizes.{block_size}
-use Rattle.blocks.specs.Audit.{sound_lists}
 use Rattle.audit_value.proofs.SoundLists.{sound_parts}
 use Rattle.memory.specs.Memory.{block_at}
 use Rattle.memory.proofs.Places.{length-block_at}
@@ -15,40 +13,30 @@ never : {P : Type 0} → false ≡ true → P
 never e = absurd (let z : ◌≡◌ {A = ℕ} 0 1 = cc in omega arith)
 
 pub block_of-block-requires : goal.block_of-block-requires
-block_of-block-requires c = let start = c in (start.requires.0, start.requires.1)
+block_of-block-requires c = (c.requires.0, c.requires.1)
 
 pub sound_lists-requires : goal.sound_lists-requires
 sound_lists-requires c =
-    let long : length c.block_of-block.result.now ≡ block_size c.args.sizes =
-    let start = c in
-    rw c.block_of-block.ensures (length-block_at start.args.sizes start.args.words.now start.args.value start.requires.1) in
-    let start = c in (start.requires.0, long, start.requires.2)
+    let long = ap length c.block_of-block.ensures ∙ length-block_at c.args.sizes c.args.words.now c.args.value c.requires.1 in
+    (c.requires.0, long, c.requires.2)
 
 pub returns-then-not-sound_lists : goal.returns-then-not-sound_lists
 returns-then-not-sound_lists c =
-    let listed : let a = c.args in c.sound_lists.result ≡ sound_lists a.sizes a.issued (block_at a.sizes a.words.now a.value) =
-    rw c.block_of-block.ensures at c.sound_lists.ensures in
-    (rw (sym (listed) ∙ c.if-not-sound_lists.true) refl, never)
+    let listed = rw c.block_of-block.ensures at c.sound_lists.ensures in
+    (rw (sym listed ∙ c.if-not-sound_lists.true) refl, never)
 
 pub take_value-requires : goal.take_value-requires
 take_value-requires c =
-    let long : length c.block_of-block.result.now ≡ block_size c.args.sizes =
-    let start = c in
-    rw c.block_of-block.ensures (length-block_at start.args.sizes start.args.words.now start.args.value start.requires.1) in
-    let listed : let a = c.args in c.sound_lists.result ≡ sound_lists a.sizes a.issued (block_at a.sizes a.words.now a.value) =
-    rw c.block_of-block.ensures at c.sound_lists.ensures in
-    let looked = c in
-    let start = looked in
-    let a = start.args in
-    let is-sound = sym (listed) ∙ c.if-not-sound_lists.false in
+    let long = ap length c.block_of-block.ensures ∙ length-block_at c.args.sizes c.args.words.now c.args.value c.requires.1 in
+    let listed = rw c.block_of-block.ensures at c.sound_lists.ensures in
+    let a = c.args in
+    let is-sound = sym listed ∙ c.if-not-sound_lists.false in
     let whole = (sound_parts a.sizes a.issued (block_at a.sizes a.words.now a.value) is-sound).whole in
-    (start.requires.0, long, rw looked.block_of-block.ensures whole, start.requires.3, start.requires.4)
+    (c.requires.0, long, rw c.block_of-block.ensures whole, c.requires.3, c.requires.4)
 
 pub returns : goal.returns
 returns c =
-    let listed : let a = c.args in c.sound_lists.result ≡ sound_lists a.sizes a.issued (block_at a.sizes a.words.now a.value) =
-    rw c.block_of-block.ensures at c.sound_lists.ensures in
-    let looked = c in
-    let is-sound = sym (listed) ∙ c.if-not-sound_lists.false in
-    let takes = rw looked.block_of-block.ensures at c.take_value.ensures in
+    let listed = rw c.block_of-block.ensures at c.sound_lists.ensures in
+    let is-sound = sym listed ∙ c.if-not-sound_lists.false in
+    let takes = rw c.block_of-block.ensures at c.take_value.ensures in
     rw is-sound (takes.0, λ free. takes.1)

@@ -14,17 +14,13 @@ returns-in_default c =
 
 pub merge_due-requires : goal.merge_due-requires
 merge_due-requires c =
-    let finds : let a = c.args in Intact c.in-Intact.ones ≡ whole_of a.sizes a.block.now =
-    sym c.in-Intact.is ∙ c.check_lists.ensures in
-    let start = c in
-    let a = start.args in
-    let intact = finds in
-    (start.requires.0, start.requires.1, intact-whole a.sizes a.block.now _ intact, start.requires.2, intact-ones a.sizes a.block.now _ intact)
+    let finds : let a = c.args in Intact c.in-Intact.ones ≡ whole_of a.sizes a.block.now = sym c.in-Intact.is ∙ c.check_lists.ensures in
+    let a = c.args in
+    (c.requires.0, c.requires.1, intact-whole a.sizes a.block.now _ finds, c.requires.2, intact-ones a.sizes a.block.now _ finds)
 
 pub returns : goal.returns
 unfolding flip_for
 returns c =
-    let finds : let a = c.args in Intact c.in-Intact.ones ≡ whole_of a.sizes a.block.now =
-    sym c.in-Intact.is ∙ c.check_lists.ensures in
+    let finds : let a = c.args in Intact c.in-Intact.ones ≡ whole_of a.sizes a.block.now = sym c.in-Intact.is ∙ c.check_lists.ensures in
     let a = c.args in
-    rw (intact-whole a.sizes a.block.now _ (finds), c.merge_due.ensures) refl
+    rw (intact-whole a.sizes a.block.now _ finds, c.merge_due.ensures) refl

@@ -10,19 +10,17 @@ use Rattle.block_change.proofs.change.merge.Goals as goal
 
 pub put_value-requires : goal.put_value-requires
 put_value-requires c =
-    let start = c in
-    let fits = current-fits start.args.sizes start.requires.0 start.args.block.now start.requires.2 in
+    let fits = current-fits c.args.sizes c.requires.0 c.args.block.now c.requires.2 in
     search rules
 
 pub returns : goal.returns
 unfolding merged
 returns c =
-    let start = c in
-    let a = start.args in
+    let a = c.args in
     let made = c.current_into-count in
     let put = c.put_value in
     let cleared = c.clear_update in
-    emptied-written a.sizes start.requires.0 (encode (current a.sizes a.block.now))
-    (current-fits a.sizes start.requires.0 a.block.now start.requires.2) a.block.now start.requires.1
+    emptied-written a.sizes c.requires.0 (encode (current a.sizes a.block.now))
+    (current-fits a.sizes c.requires.0 a.block.now c.requires.2) a.block.now c.requires.1
     made.result 4096 made.new.out put.new.block cleared.new.block
     made.ensures.0 (omega arith) made.ensures.1 put.ensures cleared.ensures

@@ -5,20 +5,17 @@ use Rattle.block_change.proofs.change.merge_due.Goals as goal
 
 pub returns-then-ones-sizes : goal.returns-then-ones-sizes
 returns-then-ones-sizes c =
-    let start = c in
-    none_due start.args.sizes start.args.row start.args.block.now (omega (arith, start.requires.4))
+    none_due c.args.sizes c.args.row c.args.block.now (omega (arith, c.requires.4))
 
 pub returns-in_default : goal.returns-in_default
 returns-in_default c =
-    let start = c in
     let read = c.read_update in
     absurd
-    (never_broken start.args.sizes start.args.row start.args.block.now start.requires.0 start.requires.2 start.requires.3 read.result read.ensures
+    (never_broken c.args.sizes c.args.row c.args.block.now c.requires.0 c.requires.2 c.requires.3 read.result read.ensures
     c.in_default.is)
 
 pub returns : goal.returns
 returns c =
-    let start = c in
     let read = c.read_update in
-    bit_decides start.args.sizes start.args.row start.args.block.now start.requires.0 start.requires.2 start.requires.3 read.result read.ensures
-    _ _ c.row_of.result c.in-Group.is (omega (arith, start.requires.4)) c.row_of.ensures
+    bit_decides c.args.sizes c.args.row c.args.block.now c.requires.0 c.requires.2 c.requires.3 read.result read.ensures
+    _ _ c.row_of.result c.in-Group.is (omega (arith, c.requires.4)) c.row_of.ensures

@@ -5,9 +5,8 @@ use Rattle.block_change.proofs.change.turn.Goals as goal
 
 pub returns : goal.returns
 returns c =
-    let start = c in
-    let a = start.args in
+    let a = c.args in
     let made = c.turned_into-count in
     let put = c.put_update in
-    turned-written a.sizes a.row a.block.now start.requires.4 made.result 511 made.new.out put.new.block
+    turned-written a.sizes a.row a.block.now c.requires.4 made.result 511 made.new.out put.new.block
     made.ensures.0 (omega arith) made.ensures.1 put.ensures

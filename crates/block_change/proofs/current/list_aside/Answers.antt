@@ -1,7 +1,7 @@
 -- `list_aside` makes the list in an array that has room for any list, and gives it.
-use mathlib.Core.Path.{◌≡◌, ◌∙◌, ap, sym}
+use mathlib.Core.Path.{◌∙◌, ap, sym}
 use native.Mathlib.Omega.{arith}
-use lib.ListN.{length, take, drop, replicate, length-take}
+use lib.ListN.{length, drop, replicate, length-take}
 use Rattle.words.specs.Words.{encode}
 use Rattle.blocks.specs.Block.{current}
 use Rattle.groups.proofs.Sets.{front}
@@ -10,29 +10,22 @@ use Rattle.block_change.proofs.current.list_aside.Goals as goal
 
 pub slice_bounds-list-end : goal.slice_bounds-list-end
 slice_bounds-list-end c =
-    let made : let start = c in take c.current_into-length.result c.current_into-length.new.out ≡ encode (current start.args.sizes start.args.block.now) =
-    let start = c in
     let into = c.current_into-length in
-    front into.new.out (encode (current start.args.sizes start.args.block.now)) (drop into.result (replicate 4096 0)) into.result
+    let made = front into.new.out (encode (current c.args.sizes c.args.block.now)) (drop into.result (replicate 4096 0)) into.result
     into.ensures.0 into.ensures.1 in
-    let into = c.current_into-length in
-    omega (arith, length-take into.result into.new.out, ap length (made), into.ensures.0)
+    omega (arith, length-take into.result into.new.out, ap length made, into.ensures.0)
 
 pub slice_bounds-give_list-end : goal.slice_bounds-give_list-end
 slice_bounds-give_list-end c =
-    let made : let start = c in take c.current_into-length.result c.current_into-length.new.out ≡ encode (current start.args.sizes start.args.block.now) =
-    let start = c in
     let into = c.current_into-length in
-    front into.new.out (encode (current start.args.sizes start.args.block.now)) (drop into.result (replicate 4096 0)) into.result
+    let made = front into.new.out (encode (current c.args.sizes c.args.block.now)) (drop into.result (replicate 4096 0)) into.result
     into.ensures.0 into.ensures.1 in
-    c.current_into-length.ensures.0 ∙ sym (ap length (made))
+    c.current_into-length.ensures.0 ∙ sym (ap length made)
 
 pub returns : goal.returns
 unfolding list_outcome
 returns c =
-    let made : let start = c in take c.current_into-length.result c.current_into-length.new.out ≡ encode (current start.args.sizes start.args.block.now) =
-    let start = c in
     let into = c.current_into-length in
-    front into.new.out (encode (current start.args.sizes start.args.block.now)) (drop into.result (replicate 4096 0)) into.result
+    let made = front into.new.out (encode (current c.args.sizes c.args.block.now)) (drop into.result (replicate 4096 0)) into.result
     into.ensures.0 into.ensures.1 in
-    rw (made) at c.give_list.ensures
+    rw made at c.give_list.ensures

@@ -6,9 +6,8 @@ use Rattle.block_change.proofs.current.list_current.Goals as goal
 
 pub returns : goal.returns
 returns c =
-    let start = c in
-    let a = start.args in
-    let fits = current-fits a.sizes start.requires.0 a.block.now start.requires.2 in
+    let a = c.args in
+    let fits = current-fits a.sizes c.requires.0 a.block.now c.requires.2 in
     let into = c.current_into-length in
     done a.sizes a.block.now a.out.now (omega (arith, c.if-out-sizes.false))
     into.result into.new.out into.ensures.0 into.ensures.1

@@ -10,11 +10,10 @@ use Rattle.block_read.proofs.fence.next_fence.Goals as goal
 
 pub locate_from-requires : goal.locate_from-requires
 locate_from-requires c =
-    let start = c in
-    let a = start.args in
-    let long = ap length c.value_list.ensures ∙ length-value_list a.sizes a.block.now start.requires.1 start.requires.2 in
-    let few = few_words a.sizes start.requires.0 in
-    (omega arith, omega arith, start.requires.4, start.requires.5)
+    let a = c.args in
+    let long = ap length c.value_list.ensures ∙ length-value_list a.sizes a.block.now c.requires.1 c.requires.2 in
+    let few = few_words a.sizes c.requires.0 in
+    (omega arith, omega arith, c.requires.4, c.requires.5)
 
 pub returns : goal.returns
 returns c =

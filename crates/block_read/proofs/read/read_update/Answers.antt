@@ -5,11 +5,10 @@ use Rattle.block_read.proofs.read.Exits.{update_long, update_walked}
 use Rattle.block_read.proofs.read.read_update.Goals as goal
 
 pub returns-then-room-update_length : goal.returns-then-room-update_length
-returns-then-room-update_length c = let start = c in update_long start.args.sizes start.args.block.now start.args.group (omega (arith, start.requires.0.update_room_is))
+returns-then-room-update_length c = update_long c.args.sizes c.args.block.now c.args.group (omega (arith, c.requires.0.update_room_is))
 
 pub returns : goal.returns
 returns c =
-    let start = c in
     c.read_from.ensures
-    ∙ update_walked start.args.sizes start.args.block.now start.args.group (omega (arith, start.requires.0.update_room_is))
-    _ c.update_list.ensures _ start.requires.0.update_room_is
+    ∙ update_walked c.args.sizes c.args.block.now c.args.group (omega (arith, c.requires.0.update_room_is))
+    _ c.update_list.ensures _ c.requires.0.update_room_is

@@ -4,4 +4,4 @@ use Rattle.blocks.proofs.Parts.{update_slice}
 use Rattle.blocks.proofs.layout.update_list.Goals as goal
 
 pub returns : goal.returns
-returns c = let start = c in update_slice start.args.sizes start.args.block.now _ _ refl refl start.requires.2
+returns c = update_slice c.args.sizes c.args.block.now _ _ refl refl c.requires.2

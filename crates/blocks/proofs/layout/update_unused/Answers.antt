@@ -5,4 +5,4 @@ use Rattle.blocks.proofs.Parts.{update_unused_slice}
 use Rattle.blocks.proofs.layout.update_unused.Goals as goal
 
 pub returns : goal.returns
-returns c = let start = c in update_unused_slice start.args.sizes start.args.block.now _ _ refl (omega arith)
+returns c = update_unused_slice c.args.sizes c.args.block.now _ _ refl (omega arith)

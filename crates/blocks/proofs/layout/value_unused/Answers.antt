@@ -4,4 +4,4 @@ use Rattle.blocks.proofs.Parts.{value_unused_slice}
 use Rattle.blocks.proofs.layout.value_unused.Goals as goal
 
 pub returns : goal.returns
-returns c = let start = c in value_unused_slice start.args.sizes start.args.block.now _ _ refl refl
+returns c = value_unused_slice c.args.sizes c.args.block.now _ _ refl refl

@@ -5,8 +5,7 @@ use Rattle.blocks.proofs.put.clear_update.Goals as goal
 
 pub returns : goal.returns
 returns c =
-    let start = c in
-    let a = start.args in
+    let a = c.args in
     let word = c.fill_word in
     let put = c.put_update in
-    cleared a.sizes start.requires.0 a.block.now word.result 511 put.new.block word.ensures (omega arith) put.ensures
+    cleared a.sizes c.requires.0 a.block.now word.result 511 put.new.block word.ensures (omega arith) put.ensures

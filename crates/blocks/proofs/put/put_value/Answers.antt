@@ -9,28 +9,24 @@ use Rattle.blocks.proofs.put.put_value.Goals as goal
 
 pub slice_bounds-copy-end : goal.slice_bounds-copy-end
 slice_bounds-copy-end c =
-    let start = c.before.before.before in
-    let a = start.args in
+    let a = c.args in
     sym (length-take-le (value_room a.sizes) a.room.now (omega arith))
 
 pub copy-requires : goal.copy-requires
 copy-requires c =
-    let start = c.before.before.before.before in
-    let a = start.args in
+    let a = c.args in
     copy_fits a.block.now 0 a.count 2 a.room.now (value_room a.sizes) (omega arith) (omega arith)
 
 pub shape_of-block : goal.shape_of-block
 shape_of-block c =
-    let start = c.before.before.before.before.before.before.before in
-    let a = start.args in
+    let a = c.args in
     let copy = c.copy in
     stored_long a.block.now 0 a.count 2 a.room.now (value_room a.sizes) (omega arith) (omega arith) (omega arith) copy.new.out copy.ensures
 
 pub returns : goal.returns
 returns c =
-    let start = c.before.before.before.before.before.before.before in
-    let a = start.args in
+    let a = c.args in
     let copy = c.copy in
     stored a.block.now 0 a.count 2 a.room.now (value_room a.sizes) (omega arith) (omega arith) (omega arith) copy.new.out copy.ensures
-    ∙ value_writes a.sizes a.count (take (value_room a.sizes) a.room.now) a.block.now start.requires.1
+    ∙ value_writes a.sizes a.count (take (value_room a.sizes) a.room.now) a.block.now c.requires.1
     (length-take-le (value_room a.sizes) a.room.now (omega arith))

@@ -10,20 +10,19 @@ overflow_cast-result c = omega (arith, rounded_few c.groups_for-value_room.resul
 
 pub returns : goal.returns
 unfolding fences_for
-returns c =
-    let start = c in (
-      rw c.groups_for-value_room.ensures refl,
-      record {
-        some_rows = start.requires.0;
-        few_rows = start.requires.1;
-        some_threshold = start.requires.2;
-        few_threshold = start.requires.3;
-        some_spacing = start.requires.4;
-        few_spacing = start.requires.5;
-        groups_are = c.groups_for-value_room.ensures;
-        value_room_is = refl;
-        update_room_is = refl;
-        block_is = refl;
-        fences_are = refl;
-      },
-    )
+returns c = (
+  rw c.groups_for-value_room.ensures refl,
+  record {
+    some_rows = c.requires.0;
+    few_rows = c.requires.1;
+    some_threshold = c.requires.2;
+    few_threshold = c.requires.3;
+    some_spacing = c.requires.4;
+    few_spacing = c.requires.5;
+    groups_are = c.groups_for-value_room.ensures;
+    value_room_is = refl;
+    update_room_is = refl;
+    block_is = refl;
+    fences_are = refl;
+  },
+)

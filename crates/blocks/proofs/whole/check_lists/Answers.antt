@@ -5,10 +5,10 @@ use Rattle.blocks.proofs.whole.Exits.{value_exceeds, update_exceeds, value_bad, 
 use Rattle.blocks.proofs.whole.check_lists.Goals as goal
 
 pub returns-then-sizes-value_length : goal.returns-then-sizes-value_length
-returns-then-sizes-value_length c = let start = c in value_exceeds start.args.sizes start.args.block.now (omega arith)
+returns-then-sizes-value_length c = value_exceeds c.args.sizes c.args.block.now (omega arith)
 
 pub returns-then-sizes-update_length : goal.returns-then-sizes-update_length
-returns-then-sizes-update_length c = let start = c in update_exceeds start.args.sizes start.args.block.now (omega (arith, start.requires.0.update_room_is))
+returns-then-sizes-update_length c = update_exceeds c.args.sizes c.args.block.now (omega (arith, c.requires.0.update_room_is))
 
 pub returns-in_default : goal.returns-in_default
 returns-in_default c =
@@ -22,9 +22,8 @@ returns-in_default-check c =
 
 pub ones_of-ones-requires : goal.ones_of-ones-requires
 ones_of-ones-requires c =
-    let start = c in
-    ones_fit start.args.sizes start.args.block.now _ c.update_list-update.ensures
-    (sym c.in-Whole-check.is ∙ c.check-2.ensures) start.requires.0
+    ones_fit c.args.sizes c.args.block.now _ c.update_list-update.ensures
+    (sym c.in-Whole-check.is ∙ c.check-2.ensures) c.requires.0
 
 pub returns-then-sizes-ones : goal.returns-then-sizes-ones
 returns-then-sizes-ones c =
@@ -35,11 +34,10 @@ returns-then-sizes-ones c =
 
 pub returns : goal.returns
 returns c =
-    let start = c in
-    let a = start.args in
+    let a = c.args in
     let ones = c.ones_of-ones in
     intact a.sizes a.block.now _ c.update_list-update.ensures
     (sym c.in-Whole-check.is ∙ c.check-2.ensures) ones.result ones.ensures
     (omega (arith, c.value_length.ensures, c.if-sizes-value_length.false))
-    (omega (arith, start.requires.0.update_room_is, c.update_length.ensures, c.if-sizes-update_length.false)) _ c.value_list.ensures
+    (omega (arith, c.requires.0.update_room_is, c.update_length.ensures, c.if-sizes-update_length.false)) _ c.value_list.ensures
     (sym c.in-Whole.is ∙ c.check.ensures) c.if-sizes-ones.false

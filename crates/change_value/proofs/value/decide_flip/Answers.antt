@@ -6,9 +6,8 @@ use Rattle.change_value.proofs.value.decide_flip.Goals as goal
 
 pub flip_for-requires : goal.flip_for-requires
 flip_for-requires c =
-    let start = c in
-    let a = start.args in
-    (start.requires.0, ap length c.block_of.ensures ∙ length-block_at a.sizes a.words.now a.value start.requires.1, start.requires.2)
+    let a = c.args in
+    (c.requires.0, ap length c.block_of.ensures ∙ length-block_at a.sizes a.words.now a.value c.requires.1, c.requires.2)
 
 pub returns : goal.returns
 returns c = rw c.block_of.ensures at c.flip_for.ensures

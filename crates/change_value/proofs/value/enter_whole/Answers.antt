@@ -20,7 +20,7 @@ block_of-requires c =
     let a = c.args in
     let call = c.enter_value-entry in
     inside a.words.now a.fences a.header a.value call.result call.ensures _ c.in-Ready.is in
-    let is = block_inside in (is.limits, is.inside)
+    (block_inside.limits, block_inside.inside)
 
 pub check_lists-requires : goal.check_lists-requires
 check_lists-requires c =
@@ -29,27 +29,22 @@ check_lists-requires c =
     let call = c.enter_value-entry in
     inside a.words.now a.fences a.header a.value call.result call.ensures _ c.in-Ready.is in
     let a = c.args in
-    let is = block_inside in
-    (is.limits, ap length c.block_of.ensures ∙ length-block_at _ a.words.now a.value is.inside)
+    (block_inside.limits, ap length c.block_of.ensures ∙ length-block_at _ a.words.now a.value block_inside.inside)
 
 pub returns-in_default-check_lists : goal.returns-in_default-check_lists
 returns-in_default-check_lists c =
-    let finds : let entry = c in let a = entry.args in let sizes = entry.in-Ready.sizes in c.check_lists.result ≡ whole_of sizes (block_at sizes a.words.now a.value) =
+    let finds : let a = c.args in let sizes = c.in-Ready.sizes in c.check_lists.result ≡ whole_of sizes (block_at sizes a.words.now a.value) =
     rw c.block_of.ensures at c.check_lists.ensures in
-    let check = c in
-    let entry = check in
-    let a = entry.args in
-    let call = entry.enter_value-entry in
-    faulty a.words.now a.fences a.header a.value call.result call.ensures _ entry.in-Ready.is
+    let a = c.args in
+    let call = c.enter_value-entry in
+    faulty a.words.now a.fences a.header a.value call.result call.ensures _ c.in-Ready.is
     (sym c.in_default-check_lists.is ∙ finds)
 
 pub returns : goal.returns
 returns c =
-    let finds : let entry = c in let a = entry.args in let sizes = entry.in-Ready.sizes in c.check_lists.result ≡ whole_of sizes (block_at sizes a.words.now a.value) =
+    let finds : let a = c.args in let sizes = c.in-Ready.sizes in c.check_lists.result ≡ whole_of sizes (block_at sizes a.words.now a.value) =
     rw c.block_of.ensures at c.check_lists.ensures in
-    let check = c in
-    let entry = check in
-    let a = entry.args in
-    let call = entry.enter_value-entry in
-    intact a.words.now a.fences a.header a.value call.result call.ensures _ entry.in-Ready.is
+    let a = c.args in
+    let call = c.enter_value-entry in
+    intact a.words.now a.fences a.header a.value call.result call.ensures _ c.in-Ready.is
     _ (sym c.in-Intact.is ∙ finds)

@@ -1,6 +1,5 @@
 -- `flip_value` flips the row in the block of the value, which it lends.
 use mathlib.Core.Path.{◌∙◌, ap}
-use Prim.Native.Nat.{◌+◌, ◌*◌, ◌≤◌}
 use native.Mathlib.Omega.{arith}
 use lib.ListN.{length}
 use Rattle.block_change.specs.Change.{flipped}
@@ -13,44 +12,34 @@ use Rattle.change_value.proofs.value.flip_value.Goals as goal
 
 pub overflow_mul-at : goal.overflow_mul-at
 overflow_mul-at c =
-    let within : c.args.value * c.args.sizes.block + c.args.sizes.block ≤ length c.args.words.now =
-    inside_words c.args.sizes c.requires.0 (length c.args.words.now) c.args.value c.requires.1 in
-    omega (arith, within)
+    omega (arith, inside_words c.args.sizes c.requires.0 (length c.args.words.now) c.args.value c.requires.1)
 
 pub overflow_add-end : goal.overflow_add-end
 overflow_add-end c =
-    let within : c.args.value * c.args.sizes.block + c.args.sizes.block ≤ length c.args.words.now =
-    inside_words c.args.sizes c.requires.0 (length c.args.words.now) c.args.value c.requires.1 in
-    omega (arith, within)
+    omega (arith, inside_words c.args.sizes c.requires.0 (length c.args.words.now) c.args.value c.requires.1)
 
 pub offset_bounds-words-at : goal.offset_bounds-words-at
 offset_bounds-words-at c =
-    let within : c.args.value * c.args.sizes.block + c.args.sizes.block ≤ length c.args.words.now =
-    inside_words c.args.sizes c.requires.0 (length c.args.words.now) c.args.value c.requires.1 in
-    omega (arith, within)
+    omega (arith, inside_words c.args.sizes c.requires.0 (length c.args.words.now) c.args.value c.requires.1)
 
 pub slice_bounds-flip_row-end : goal.slice_bounds-flip_row-end
 slice_bounds-flip_row-end c =
-    let within : c.args.value * c.args.sizes.block + c.args.sizes.block ≤ length c.args.words.now =
-    inside_words c.args.sizes c.requires.0 (length c.args.words.now) c.args.value c.requires.1 in
-    omega (arith, within)
+    omega (arith, inside_words c.args.sizes c.requires.0 (length c.args.words.now) c.args.value c.requires.1)
 
 pub flip_row-requires : goal.flip_row-requires
 unfolding whole merges_in
 flip_row-requires c =
-    let start = c in
-    let a = start.args in
-    let same = lent-block a.sizes start.requires.0 a.words.now a.value in
-    let long = length-block_at a.sizes a.words.now a.value start.requires.1 in
-    (start.requires.0, ap length same ∙ long, rw same start.requires.2, start.requires.3, rw same start.requires.4)
+    let a = c.args in
+    let same = lent-block a.sizes c.requires.0 a.words.now a.value in
+    let long = length-block_at a.sizes a.words.now a.value c.requires.1 in
+    (c.requires.0, ap length same ∙ long, rw same c.requires.2, c.requires.3, rw same c.requires.4)
 
 pub returns : goal.returns
 unfolding flipped_words whole
 returns c =
-    let start = c in
-    let a = start.args in
+    let a = c.args in
     let block = block_at a.sizes a.words.now a.value in
-    let long = length-block_at a.sizes a.words.now a.value start.requires.1 in
+    let long = length-block_at a.sizes a.words.now a.value c.requires.1 in
     let flip = c.flip_row in
-    put_back a.sizes start.requires.0 a.words.now a.value (flipped a.sizes a.row)
-    (length-flipped a.sizes start.requires.0 a.row start.requires.3 block long start.requires.2) flip.new.block flip.ensures
+    put_back a.sizes c.requires.0 a.words.now a.value (flipped a.sizes a.row)
+    (length-flipped a.sizes c.requires.0 a.row c.requires.3 block long c.requires.2) flip.new.block flip.ensures

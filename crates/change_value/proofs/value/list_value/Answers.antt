@@ -8,10 +8,9 @@ use Rattle.change_value.proofs.value.list_value.Goals as goal
 pub list_current-requires : goal.list_current-requires
 unfolding whole
 list_current-requires c =
-    let start = c in
-    let a = start.args in
+    let a = c.args in
     let same = c.block_of.ensures in
-    (start.requires.0, ap length same ∙ length-block_at a.sizes a.words.now a.value start.requires.1, rw same start.requires.2)
+    (c.requires.0, ap length same ∙ length-block_at a.sizes a.words.now a.value c.requires.1, rw same c.requires.2)
 
 pub returns : goal.returns
 returns c = rw c.block_of.ensures at c.list_current.ensures

@@ -1,6 +1,5 @@
 -- `merge_value` merges the block of the value, which it lends.
 use mathlib.Core.Path.{◌∙◌, ap}
-use Prim.Native.Nat.{◌+◌, ◌*◌, ◌≤◌}
 use native.Mathlib.Omega.{arith}
 use lib.ListN.{length}
 use Rattle.block_change.specs.Change.{merged}
@@ -13,41 +12,31 @@ use Rattle.change_value.proofs.value.merge_value.Goals as goal
 
 pub overflow_mul-at : goal.overflow_mul-at
 overflow_mul-at c =
-    let within : c.args.value * c.args.sizes.block + c.args.sizes.block ≤ length c.args.words.now =
-    inside_words c.args.sizes c.requires.0 (length c.args.words.now) c.args.value c.requires.1 in
-    omega (arith, within)
+    omega (arith, inside_words c.args.sizes c.requires.0 (length c.args.words.now) c.args.value c.requires.1)
 
 pub overflow_add-end : goal.overflow_add-end
 overflow_add-end c =
-    let within : c.args.value * c.args.sizes.block + c.args.sizes.block ≤ length c.args.words.now =
-    inside_words c.args.sizes c.requires.0 (length c.args.words.now) c.args.value c.requires.1 in
-    omega (arith, within)
+    omega (arith, inside_words c.args.sizes c.requires.0 (length c.args.words.now) c.args.value c.requires.1)
 
 pub offset_bounds-words-at : goal.offset_bounds-words-at
 offset_bounds-words-at c =
-    let within : c.args.value * c.args.sizes.block + c.args.sizes.block ≤ length c.args.words.now =
-    inside_words c.args.sizes c.requires.0 (length c.args.words.now) c.args.value c.requires.1 in
-    omega (arith, within)
+    omega (arith, inside_words c.args.sizes c.requires.0 (length c.args.words.now) c.args.value c.requires.1)
 
 pub slice_bounds-merge-end : goal.slice_bounds-merge-end
 slice_bounds-merge-end c =
-    let within : c.args.value * c.args.sizes.block + c.args.sizes.block ≤ length c.args.words.now =
-    inside_words c.args.sizes c.requires.0 (length c.args.words.now) c.args.value c.requires.1 in
-    omega (arith, within)
+    omega (arith, inside_words c.args.sizes c.requires.0 (length c.args.words.now) c.args.value c.requires.1)
 
 pub merge-requires : goal.merge-requires
 unfolding whole
 merge-requires c =
-    let start = c in
-    let a = start.args in
-    let same = lent-block a.sizes start.requires.0 a.words.now a.value in
-    (start.requires.0, ap length same ∙ length-block_at a.sizes a.words.now a.value start.requires.1, rw same start.requires.2)
+    let a = c.args in
+    let same = lent-block a.sizes c.requires.0 a.words.now a.value in
+    (c.requires.0, ap length same ∙ length-block_at a.sizes a.words.now a.value c.requires.1, rw same c.requires.2)
 
 pub returns : goal.returns
 unfolding merged_words whole
 returns c =
-    let start = c in
-    let a = start.args in
+    let a = c.args in
     let merge = c.merge in
-    put_back a.sizes start.requires.0 a.words.now a.value (merged a.sizes)
-    (length_merged a.sizes start.requires.0 (block_at a.sizes a.words.now a.value) start.requires.2) merge.new.block merge.ensures
+    put_back a.sizes c.requires.0 a.words.now a.value (merged a.sizes)
+    (length_merged a.sizes c.requires.0 (block_at a.sizes a.words.now a.value) c.requires.2) merge.new.block merge.ensures

@@ -12,19 +12,13 @@ loop-i-init c = (omega arith, from_zero c.args.digits.now c.if-digits-eq0.false)
 
 pub returns-in_default : goal.returns-in_default
 returns-in_default c =
-    let made = c in
-    let read = made in
-    let loop = read in
-    read_none loop.loop-i.value loop.args.digits.now loop.loop-i.i (omega arith) loop.loop-i.invariant.1 read.digit_of-digit.result read.digit_of-digit.ensures made.with_digit.result made.with_digit.ensures c.in_default.is
+    read_none c.loop-i.value c.args.digits.now c.loop-i.i (omega arith) c.loop-i.invariant.1 c.digit_of-digit.result c.digit_of-digit.ensures c.with_digit.result c.with_digit.ensures c.in_default.is
 
 pub loop-i-preserved : goal.loop-i-preserved
-loop-i-preserved c =
-    let made = c in
-    let read = made in
-    let loop = read in (
-      omega arith,
-      read_more loop.loop-i.value loop.args.digits.now loop.loop-i.i (omega arith) loop.loop-i.invariant.1 read.digit_of-digit.result read.digit_of-digit.ensures made.with_digit.result made.with_digit.ensures c.in-Is.next c.in-Is.is,
-    )
+loop-i-preserved c = (
+  omega arith,
+  read_more c.loop-i.value c.args.digits.now c.loop-i.i (omega arith) c.loop-i.invariant.1 c.digit_of-digit.result c.digit_of-digit.ensures c.with_digit.result c.with_digit.ensures c.in-Is.next c.in-Is.is,
+)
 
 pub returns : goal.returns
 returns c =

@@ -9,11 +9,9 @@ returns-then-digits-ne8 c = no_word c.args.digits.now c.if-digits-ne8.true
 pub returns-then-not-all_digits : goal.returns-then-not-all_digits
 returns-then-not-all_digits c =
     let all = c.all_digits in
-    let eight = c in
-    no_digit_word eight.args.digits.now eight.if-digits-ne8.false (sym all.ensures ∙ c.if-not-all_digits.true)
+    no_digit_word c.args.digits.now c.if-digits-ne8.false (sym all.ensures ∙ c.if-not-all_digits.true)
 
 pub returns : goal.returns
 returns c =
     let all = c.all_digits in
-    let eight = c in
-    a_word eight.args.digits.now eight.if-digits-ne8.false (sym all.ensures ∙ c.if-not-all_digits.false) c.number_in.result c.number_in.ensures
+    a_word c.args.digits.now c.if-digits-ne8.false (sym all.ensures ∙ c.if-not-all_digits.false) c.number_in.result c.number_in.ensures

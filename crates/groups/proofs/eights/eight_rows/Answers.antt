@@ -4,10 +4,9 @@ use Rattle.groups.proofs.eights.Computed.{gathers}
 use Rattle.groups.proofs.eights.eight_rows.Goals as goal
 
 pub returns : goal.returns
-returns c =
-    let start = c in (
-      c.wide.ensures.0 ∙ c.eight_bits.ensures
-          ∙ rw (c.four_bytes-first.ensures, c.four_bytes-last.ensures)
-          (gathers start.args.rows.now start.args.at start.requires.0 start.requires.1),
-      c.wide.ensures.1,
-    )
+returns c = (
+  c.wide.ensures.0 ∙ c.eight_bits.ensures
+      ∙ rw (c.four_bytes-first.ensures, c.four_bytes-last.ensures)
+      (gathers c.args.rows.now c.args.at c.requires.0 c.requires.1),
+  c.wide.ensures.1,
+)

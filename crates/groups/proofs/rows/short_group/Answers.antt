@@ -18,11 +18,9 @@ overflow_add-group c =
 pub loop-i-preserved : goal.loop-i-preserved
 loop-i-preserved c =
     let loop = c.loop-i in
-    let start = c in
-    rw c.wide.ensures.0 (gather_more start.args.rows.now loop.group loop.i start.requires.0 start.requires.1 (omega arith) loop.invariant)
+    rw c.wide.ensures.0 (gather_more c.args.rows.now loop.group loop.i c.requires.0 c.requires.1 (omega arith) loop.invariant)
 
 pub returns : goal.returns
 returns c =
     let loop = c.loop-i in
-    let start = c in
-    gather_all start.args.rows.now loop.group loop.i start.requires.1 (omega arith) loop.invariant
+    gather_all c.args.rows.now loop.group loop.i c.requires.1 (omega arith) loop.invariant

@@ -4,11 +4,10 @@ use Rattle.groups.proofs.rows.whole_group.Goals as goal
 
 pub returns : goal.returns
 returns c =
-    let start = c in
     rw (
       c.eight_rows.ensures.0,
       c.eight_rows-2.ensures.0,
       c.eight_rows-3.ensures.0,
       c.eight_rows-4.ensures.0,
     )
-    (group_of_eights start.args.rows.now start.requires.0)
+    (group_of_eights c.args.rows.now c.requires.0)

@@ -8,8 +8,7 @@ loop-i-init c = none_marked c.args.words.now
 
 pub loop-i-preserved : goal.loop-i-preserved
 loop-i-preserved c =
-    let turn = c in
-    next_mark turn.loop-i.invariant turn.loop-i-test.true c.run_mark-marks.result c.run_mark-marks.ensures
+    next_mark c.loop-i.invariant c.loop-i-test.true c.run_mark-marks.result c.run_mark-marks.ensures
 
 pub returns : goal.returns
 returns c = λ low. all_unmarked c.loop-i.invariant c.loop-i-test.false (omega (arith, eqb-true (c.loop-i.marks / 0x80000000) 0 low))

@@ -39,7 +39,7 @@ returns-then-not-tail_clear c =
     let last = c.last_group in
     ends a.list.now a.length groups.result groups.ensures (sym keeps.ensures ∙ c.if-not-keeps_form.false)
     last.result last.ensures c.tail_clear.result c.tail_clear.ensures in
-    ap (λ (t : Bool). cond t Whole Bad) (sym (c.if-not-tail_clear.true)) ∙ told
+    ap (λ (t : Bool). cond t Whole Bad) (sym c.if-not-tail_clear.true) ∙ told
 
 pub returns : goal.returns
 returns c =
@@ -50,4 +50,4 @@ returns c =
     let last = c.last_group in
     ends a.list.now a.length groups.result groups.ensures (sym keeps.ensures ∙ c.if-not-keeps_form.false)
     last.result last.ensures c.tail_clear.result c.tail_clear.ensures in
-    ap (λ (t : Bool). cond t Whole Bad) (sym (c.if-not-tail_clear.false)) ∙ told
+    ap (λ (t : Bool). cond t Whole Bad) (sym c.if-not-tail_clear.false) ∙ told

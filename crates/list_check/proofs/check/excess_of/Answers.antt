@@ -9,7 +9,6 @@ returns c =
     let fill = c.pick-fill in
     let excess = c.pick-excess in
     let full = c.pick in
-    let start = c in
-    picked start.args.before start.args.word counted.result fill.result excess.result full.result c.pick-2.result (omega arith) (omega arith) (omega arith)
+    picked c.args.before c.args.word counted.result fill.result excess.result full.result c.pick-2.result (omega arith) (omega arith) (omega arith)
     (counted.ensures.value ∙ c.fill_count.ensures) fill.ensures
     (excess.ensures ∙ ap (λ (t : Bool). cond t fill.result 0) c.is_fill.ensures) full.ensures c.pick-2.ensures

@@ -13,7 +13,7 @@ pub loop-i-preserved : goal.loop-i-preserved
 loop-i-preserved c =
     let stride = c.all_mixed in
     mixed_part c.loop-i.invariant (omega arith) _ (omega arith) (omega arith)
-    (stride.ensures (c.if-not-all_mixed.false))
+    (stride.ensures c.if-not-all_mixed.false)
 
 pub returns : goal.returns
 returns c = c.loop-i.invariant

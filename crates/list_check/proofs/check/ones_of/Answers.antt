@@ -9,20 +9,17 @@ loop-i-init c = count_none c.args.list.now
 pub ones_in-ones-requires : goal.ones_in-ones-requires
 ones_in-ones-requires c =
     let loop = c.loop-i in
-    let start = c in
-    span_fits start.args.list.now loop.i c.loop-i-test.true start.requires
+    span_fits c.args.list.now loop.i c.loop-i-test.true c.requires
 
 pub overflow_add-ones : goal.overflow_add-ones
 overflow_add-ones c =
     let loop = c.loop-i in
-    let start = c in
-    omega (arith, sum_fits start.args.list.now loop.i c.loop-i-test.true loop.invariant c.ones_in-ones.result c.ones_in-ones.ensures start.requires)
+    omega (arith, sum_fits c.args.list.now loop.i c.loop-i-test.true loop.invariant c.ones_in-ones.result c.ones_in-ones.ensures c.requires)
 
 pub loop-i-preserved : goal.loop-i-preserved
 loop-i-preserved c =
     let loop = c.loop-i in
-    let start = c in
-    count-more start.args.list.now loop.i c.loop-i-test.true loop.invariant c.ones_in-ones.result c.ones_in-ones.ensures
+    count-more c.args.list.now loop.i c.loop-i-test.true loop.invariant c.ones_in-ones.result c.ones_in-ones.ensures
 
 pub returns : goal.returns
 returns c =

@@ -8,11 +8,10 @@ returns-then-list-from c = at_end c.requires.0 c.if-list-from.true
 
 pub loop-i-init : goal.loop-i-init
 loop-i-init c =
-    let start = c in
     let before = c.word_before in
     let first = c.excess_of-first in
     let same : (0 + first.result) % 0x100000000 ≡ first.result = omega arith in (
-      rw same at (next_word start.requires.0 (omega arith) (omega arith) before.result first.result before.ensures first.ensures),
+      rw same at (next_word c.requires.0 (omega arith) (omega arith) before.result first.result before.ensures first.ensures),
       omega arith,
     )
 

@@ -1,11 +1,7 @@
 -- `enter_index` meets its contract: each exit is that of the first check that applies, for the sizes that are worked out behind the first. Assumes nothing.
-use mathlib.Core.Path.{◌≡◌}
-use mathlib.Core.Bool.{true}
 use native.Mathlib.Omega.{arith}
 use Rattle.blocks.proofs.SizeLaws.{blocks_bound, fences_bound}
-use Rattle.memory.specs.Memory.{within_limits}
-use Rattle.memory.specs.declared.header.Header.{Header}
-use Rattle.memory.proofs.Headers.{Within, within}
+use Rattle.memory.proofs.Headers.{within}
 use Rattle.memory.proofs.entry.Exits.{failed, held, outside, few_words, few_fences, enters}
 use Rattle.memory.proofs.entry.enter_index.Goals as goal
 
@@ -16,65 +12,38 @@ returns-then-not-header_holds c =
 
 pub sizes_for-sizes-requires : goal.sizes_for-sizes-requires
 sizes_for-sizes-requires c =
-    let header : Header =
-    c.args.header in
-    let holds : within_limits (header) ≡ true =
-    held c.header_holds.ensures c.if-not-header_holds.false in
-    let numbers : Within (header) =
-    within (header) (holds) in
-    let n = numbers in
-    (n.some_rows, n.few_rows, n.some_threshold, n.few_threshold, n.some_spacing, n.few_spacing)
+    let numbers = within c.args.header (held c.header_holds.ensures c.if-not-header_holds.false) in
+    (numbers.some_rows, numbers.few_rows, numbers.some_threshold, numbers.few_threshold, numbers.some_spacing, numbers.few_spacing)
 
 pub overflow_mul-values : goal.overflow_mul-values
 overflow_mul-values c =
-    let header : Header =
-    c.args.header in
-    let holds : within_limits (header) ≡ true =
-    held c.header_holds.ensures c.if-not-header_holds.false in
-    let numbers : Within (header) =
-    within (header) (holds) in
+    let numbers = within c.args.header (held c.header_holds.ensures c.if-not-header_holds.false) in
     let sizes = c.sizes_for-sizes in
-    let n = numbers in
-    rw sizes.ensures.1.block_is (omega (arith, blocks_bound sizes.result sizes.ensures.1 _ n.few_values))
+    rw sizes.ensures.1.block_is (omega (arith, blocks_bound sizes.result sizes.ensures.1 _ numbers.few_values))
 
 pub returns-then-words-values : goal.returns-then-words-values
 returns-then-words-values c =
-    let header : Header =
-    c.args.header in
-    let holds : within_limits (header) ≡ true =
-    held c.header_holds.ensures c.if-not-header_holds.false in
+    let holds = held c.header_holds.ensures c.if-not-header_holds.false in
     let args = c.args in
     let sizes = c.sizes_for-sizes in
-    few_words args.words args.fences args.header (holds) sizes.result sizes.ensures.0 c.if-words-values.true
+    few_words args.words args.fences args.header holds sizes.result sizes.ensures.0 c.if-words-values.true
 
 pub overflow_mul-values-2 : goal.overflow_mul-values-2
 overflow_mul-values-2 c =
-    let header : Header =
-    c.args.header in
-    let holds : within_limits (header) ≡ true =
-    held c.header_holds.ensures c.if-not-header_holds.false in
-    let numbers : Within (header) =
-    within (header) (holds) in
+    let numbers = within c.args.header (held c.header_holds.ensures c.if-not-header_holds.false) in
     let sizes = c.sizes_for-sizes in
-    let n = numbers in
-    rw sizes.ensures.1.fences_are (omega (arith, fences_bound sizes.result sizes.ensures.1 _ n.few_values))
+    rw sizes.ensures.1.fences_are (omega (arith, fences_bound sizes.result sizes.ensures.1 _ numbers.few_values))
 
 pub returns-then-fences-values : goal.returns-then-fences-values
 returns-then-fences-values c =
-    let header : Header =
-    c.args.header in
-    let holds : within_limits (header) ≡ true =
-    held c.header_holds.ensures c.if-not-header_holds.false in
+    let holds = held c.header_holds.ensures c.if-not-header_holds.false in
     let args = c.args in
     let sizes = c.sizes_for-sizes in
-    few_fences args.words args.fences args.header (holds) sizes.result sizes.ensures.0 c.if-words-values.false c.if-fences-values.true
+    few_fences args.words args.fences args.header holds sizes.result sizes.ensures.0 c.if-words-values.false c.if-fences-values.true
 
 pub returns : goal.returns
 returns c =
-    let header : Header =
-    c.args.header in
-    let holds : within_limits (header) ≡ true =
-    held c.header_holds.ensures c.if-not-header_holds.false in
+    let holds = held c.header_holds.ensures c.if-not-header_holds.false in
     let args = c.args in
     let sizes = c.sizes_for-sizes in
-    enters args.words args.fences args.header (holds) sizes.result sizes.ensures.0 c.if-words-values.false c.if-fences-values.false
+    enters args.words args.fences args.header holds sizes.result sizes.ensures.0 c.if-words-values.false c.if-fences-values.false

@@ -1,7 +1,7 @@
 -- `find_fence` meets its contract: the search goes on from the fence before. Assumes nothing.
 use mathlib.Core.Path.{ap, ◌∙◌}
 use mathlib.Core.List.{List}
-use Prim.Native.Nat.{ℕ, ◌*◌, ◌≤◌}
+use Prim.Native.Nat.{ℕ, ◌*◌}
 use native.Mathlib.Omega.{arith}
 use Rattle.blocks.specs.Block.{value_list}
 use Rattle.blocks.proofs.SizeLaws.{few-groups, few_fences, fence_group}
@@ -15,46 +15,31 @@ use Rattle.memory.proofs.fence.find_fence.Goals as goal
 
 pub overflow_cast-group : goal.overflow_cast-group
 overflow_cast-group c =
-    let few-j : c.args.j ≤ 4096 =
-    let sizes = c.args.sizes in
-    omega (arith, few_fences sizes c.requires.0, few-groups sizes c.requires.0, c.requires.3) in
-    omega (arith, few-j)
+    omega (arith, few_fences c.args.sizes c.requires.0, few-groups c.args.sizes c.requires.0, c.requires.3)
 
 pub overflow_mul-group : goal.overflow_mul-group
 overflow_mul-group c =
-    let few-group : c.args.j * c.args.sizes.spacing ≤ 4096 =
-    let sizes = c.args.sizes in
-    omega (arith, fence_group sizes c.requires.0 c.args.j c.requires.3, few-groups sizes c.requires.0) in
-    omega (arith, few-group)
+    omega (arith, fence_group c.args.sizes c.requires.0 c.args.j c.requires.3, few-groups c.args.sizes c.requires.0)
 
 pub next_fence-requires : goal.next_fence-requires
 next_fence-requires c =
-    let list : List ℕ =
-    list_at c.args.sizes c.args.words.now c.args.value in
-    let stands : Stands (list) (c.args.j * c.args.sizes.spacing) c.args.before =
-    rw c.requires.4 (before_stands c.args.sizes (list) c.args.j) in
-    let few-group : c.args.j * c.args.sizes.spacing ≤ 4096 =
-    let sizes = c.args.sizes in
-    omega (arith, fence_group sizes c.requires.0 c.args.j c.requires.3, few-groups sizes c.requires.0) in
-    let start = c in
-    let a = start.args in
-    let stand = stands in
+    let list : List ℕ = list_at c.args.sizes c.args.words.now c.args.value in
+    let stands : Stands list (c.args.j * c.args.sizes.spacing) c.args.before = rw c.requires.4 (before_stands c.args.sizes list c.args.j) in
+    let a = c.args in
     let is = c.block_of.ensures in (
-      start.requires.0,
-      rw is (length-block_at a.sizes a.words.now a.value start.requires.1),
-      rw is start.requires.2,
-      rw is (stands_place a.sizes (block_at a.sizes a.words.now a.value) _ a.before stand),
-      stand.early,
-      few-group,
+      c.requires.0,
+      rw is (length-block_at a.sizes a.words.now a.value c.requires.1),
+      rw is c.requires.2,
+      rw is (stands_place a.sizes (block_at a.sizes a.words.now a.value) _ a.before stands),
+      stands.early,
+      omega (arith, fence_group a.sizes c.requires.0 a.j c.requires.3, few-groups a.sizes c.requires.0),
     )
 
 pub returns : goal.returns
 returns c =
-    let list : List ℕ =
-    list_at c.args.sizes c.args.words.now c.args.value in
-    let start = c in
-    let a = start.args in
+    let list : List ℕ = list_at c.args.sizes c.args.words.now c.args.value in
+    let a = c.args in
     let group = a.j * a.sizes.spacing in
     let here = ap (λ (block : List ℕ). locate_from (value_list a.sizes block) a.before group) c.block_of.ensures in
-    let before = ap (λ (fence : Fence). locate_from (list) fence group) start.requires.4 in
-    c.next_fence.ensures ∙ here ∙ before ∙ before_finds a.sizes (list) a.j
+    let before = ap (λ (fence : Fence). locate_from list fence group) c.requires.4 in
+    c.next_fence.ensures ∙ here ∙ before ∙ before_finds a.sizes list a.j

@@ -1,6 +1,6 @@
 -- `block_of` meets its contract: the slice is the block. Assumes nothing.
 use mathlib.Core.Path.{ap}
-use Prim.Native.Nat.{ℕ, ◌+◌, ◌*◌, ◌≤◌}
+use Prim.Native.Nat.{ℕ, ◌*◌}
 use native.Mathlib.Omega.{arith}
 use lib.ListN.{length}
 use Rattle.blocks.specs.Sizes.{block_size}
@@ -11,32 +11,23 @@ use Rattle.memory.proofs.place.block_of.Goals as goal
 
 pub overflow_mul-at : goal.overflow_mul-at
 overflow_mul-at c =
-    let within : c.args.value * c.args.sizes.block + c.args.sizes.block ≤ length c.args.words.now =
-    inside_words c.args.sizes c.requires.0 (length c.args.words.now) c.args.value c.requires.1 in
-    omega (arith, within)
+    omega (arith, inside_words c.args.sizes c.requires.0 (length c.args.words.now) c.args.value c.requires.1)
 
 pub overflow_add-end : goal.overflow_add-end
 overflow_add-end c =
-    let within : c.args.value * c.args.sizes.block + c.args.sizes.block ≤ length c.args.words.now =
-    inside_words c.args.sizes c.requires.0 (length c.args.words.now) c.args.value c.requires.1 in
-    omega (arith, within)
+    omega (arith, inside_words c.args.sizes c.requires.0 (length c.args.words.now) c.args.value c.requires.1)
 
 pub offset_bounds-words-at : goal.offset_bounds-words-at
 offset_bounds-words-at c =
-    let within : c.args.value * c.args.sizes.block + c.args.sizes.block ≤ length c.args.words.now =
-    inside_words c.args.sizes c.requires.0 (length c.args.words.now) c.args.value c.requires.1 in
-    omega (arith, within)
+    omega (arith, inside_words c.args.sizes c.requires.0 (length c.args.words.now) c.args.value c.requires.1)
 
 pub slice_bounds-result-end : goal.slice_bounds-result-end
 slice_bounds-result-end c =
-    let within : c.args.value * c.args.sizes.block + c.args.sizes.block ≤ length c.args.words.now =
-    inside_words c.args.sizes c.requires.0 (length c.args.words.now) c.args.value c.requires.1 in
-    omega (arith, within)
+    omega (arith, inside_words c.args.sizes c.requires.0 (length c.args.words.now) c.args.value c.requires.1)
 
 pub returns : goal.returns
 unfolding block_at
 returns c =
-    let start = c in
-    let a = start.args in
-    let long = start.requires.0.block_is in
+    let a = c.args in
+    let long = c.requires.0.block_is in
     part_slice a.words.now (a.value * block_size a.sizes) (block_size a.sizes) _ _ (ap (λ (size : ℕ). a.value * size) long) (omega arith)

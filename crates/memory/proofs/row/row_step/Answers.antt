@@ -3,80 +3,57 @@ use mathlib.Core.Path.{◌≡◌, refl, sym, ap, ◌∙◌}
 use mathlib.Core.List.{List}
 use Prim.Native.Nat.{ℕ, ◌-◌, ◌/◌, ◌%◌, ◌≤◌}
 use native.Mathlib.Omega.{arith}
+use Rattle.blocks.specs.Inner.{Limits}
+use Rattle.blocks.specs.declared.sizes.Sizes.{Sizes}
 use Rattle.block_read.specs.Read.{read_group}
+use Rattle.block_read.specs.declared.fence.Fence.{Fence}
+use Rattle.block_read.specs.declared.read.Reading.{Reading}
+use Rattle.block_read.specs.declared.read.Reading.TheVariants.{Group}
 use Rattle.block_read.proofs.Readings.{group_says}
-use Rattle.memory.specs.Memory.{block_at}
 use Rattle.memory.proofs.Places.{length-block_at}
 use Rattle.memory.proofs.RowLaws.{step_clear, step_set}
 use Rattle.memory.proofs.row.row_step.Goals as goal
 
+-- what is read in the slice of a block is read in the block
+in_block : (sizes : Sizes) (fence : Fence) (group : ℕ) {slice block : List ℕ} {reading : Reading}
+    → reading ≡ read_group sizes fence group slice → slice ≡ block → reading ≡ read_group sizes fence group block
+in_block sizes fence group read same = read ∙ ap (read_group sizes fence group) same
+
+few_opened : (sizes : Sizes) → Limits sizes → (fence : Fence) (group : ℕ) (block : List ℕ) (rows opened : ℕ)
+    → read_group sizes fence group block ≡ Group rows opened → opened ≤ 767
+few_opened sizes limits fence group block rows opened found =
+    omega (arith, (group_says sizes block fence group rows opened found).few, limits.few_spacing, limits.few_threshold)
+
 pub read_group-requires : goal.read_group-requires
 read_group-requires c =
-    let start = c in
-    (start.requires.0, rw c.block_of-block.ensures (length-block_at start.args.sizes start.args.words.now start.args.value start.requires.1))
+    (c.requires.0, rw c.block_of-block.ensures (length-block_at c.args.sizes c.args.words.now c.args.value c.requires.1))
 
 pub returns-in_default : goal.returns-in_default
 returns-in_default c =
-    let read : let a = c.args in c.read_group.result ≡ read_group a.sizes a.fence (a.row / 31) (block_at a.sizes a.words.now a.value) =
-    let a = c.args in
-    c.read_group.ensures ∙ ap (λ (block : List ℕ). read_group a.sizes a.fence (a.row / 31) block) c.block_of-block.ensures in
+    let read = in_block c.args.sizes c.args.fence (c.args.row / 31) c.read_group.ensures c.block_of-block.ensures in
     rw (← read, c.in_default.is) refl
 
 pub overflow_add-result : goal.overflow_add-result
 overflow_add-result c =
-    let read : let a = c.args in c.read_group.result ≡ read_group a.sizes a.fence (a.row / 31) (block_at a.sizes a.words.now a.value) =
-    let a = c.args in
-    c.read_group.ensures ∙ ap (λ (block : List ℕ). read_group a.sizes a.fence (a.row / 31) block) c.block_of-block.ensures in
-    let few : c.in-Group.opened ≤ 767 =
-    let reading = c in
-    let a = reading.args in
-    let limits = reading.requires.0 in
-    let block = block_at a.sizes a.words.now a.value in
-    let found = sym (read) ∙ c.in-Group.is in
-    omega (
-      arith,
-      (group_says a.sizes block a.fence (a.row / 31) _ _ found).few,
-      limits.few_spacing,
-      limits.few_threshold,
-    ) in
-    omega (arith, few)
+    let read = in_block c.args.sizes c.args.fence (c.args.row / 31) c.read_group.ensures c.block_of-block.ensures in
+    omega (arith, few_opened c.args.sizes c.requires.0 c.args.fence (c.args.row / 31) _ _ _ (sym read ∙ c.in-Group.is))
 
 pub returns-then-under-eq0 : goal.returns-then-under-eq0
 returns-then-under-eq0 c =
-    let read : let a = c.args in c.read_group.result ≡ read_group a.sizes a.fence (a.row / 31) (block_at a.sizes a.words.now a.value) =
+    let read = in_block c.args.sizes c.args.fence (c.args.row / 31) c.read_group.ensures c.block_of-block.ensures in
     let a = c.args in
-    c.read_group.ensures ∙ ap (λ (block : List ℕ). read_group a.sizes a.fence (a.row / 31) block) c.block_of-block.ensures in
-    let reading = c in
-    let a = reading.args in
-    let bit = sym (c.under.ensures (30 - a.row % 31) reading.requires.2) ∙ c.if-under-eq0.true in
+    let bit = sym (c.under.ensures (30 - a.row % 31) c.requires.2) ∙ c.if-under-eq0.true in
     rw (← read, c.in-Group.is) (sym (step_clear a.row a.value a.before _ _ bit))
 
 pub overflow_add-result-3 : goal.overflow_add-result-3
 overflow_add-result-3 c =
-    let read : let a = c.args in c.read_group.result ≡ read_group a.sizes a.fence (a.row / 31) (block_at a.sizes a.words.now a.value) =
-    let a = c.args in
-    c.read_group.ensures ∙ ap (λ (block : List ℕ). read_group a.sizes a.fence (a.row / 31) block) c.block_of-block.ensures in
-    let few : c.in-Group.opened ≤ 767 =
-    let reading = c in
-    let a = reading.args in
-    let limits = reading.requires.0 in
-    let block = block_at a.sizes a.words.now a.value in
-    let found = sym (read) ∙ c.in-Group.is in
-    omega (
-      arith,
-      (group_says a.sizes block a.fence (a.row / 31) _ _ found).few,
-      limits.few_spacing,
-      limits.few_threshold,
-    ) in
-    omega (arith, few)
+    let read = in_block c.args.sizes c.args.fence (c.args.row / 31) c.read_group.ensures c.block_of-block.ensures in
+    omega (arith, few_opened c.args.sizes c.requires.0 c.args.fence (c.args.row / 31) _ _ _ (sym read ∙ c.in-Group.is))
 
 pub returns : goal.returns
 returns c =
-    let read : let a = c.args in c.read_group.result ≡ read_group a.sizes a.fence (a.row / 31) (block_at a.sizes a.words.now a.value) =
+    let read = in_block c.args.sizes c.args.fence (c.args.row / 31) c.read_group.ensures c.block_of-block.ensures in
     let a = c.args in
-    c.read_group.ensures ∙ ap (λ (block : List ℕ). read_group a.sizes a.fence (a.row / 31) block) c.block_of-block.ensures in
-    let reading = c in
-    let a = reading.args in
-    let bit = c.under.ensures (30 - a.row % 31) reading.requires.2 in
+    let bit = c.under.ensures (30 - a.row % 31) c.requires.2 in
     rw (← read, c.in-Group.is)
     (sym (step_set a.row a.value a.before _ _ (λ none. c.if-under-eq0.false (bit ∙ none))))

@@ -11,11 +11,9 @@ returns-then-is_damaged c = rw (sym c.is_damaged.ensures ∙ c.if-is_damaged.tru
 pub returns-then-row-eq0 : goal.returns-then-row-eq0
 unfolding value_of
 returns-then-row-eq0 c =
-    let read = c in
-    rw (sym read.is_damaged.ensures ∙ c.if-is_damaged.false, eq-eqb read.args.row.holders 0 c.if-row-eq0.true) refl
+    rw (sym c.is_damaged.ensures ∙ c.if-is_damaged.false, eq-eqb c.args.row.holders 0 c.if-row-eq0.true) refl
 
 pub returns : goal.returns
 unfolding value_of
 returns c =
-    let read = c in
-    rw (sym read.is_damaged.ensures ∙ c.if-is_damaged.false, ne_eqb read.args.row.holders 0 c.if-row-eq0.false) refl
+    rw (sym c.is_damaged.ensures ∙ c.if-is_damaged.false, ne_eqb c.args.row.holders 0 c.if-row-eq0.false) refl

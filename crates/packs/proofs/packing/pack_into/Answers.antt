@@ -13,11 +13,10 @@ loop-at-init c = starts _ _
 
 pub group_of-group-requires : goal.group_of-group-requires
 group_of-group-requires c =
-    let start = c in
     let at = c.loop-at.at in
     let count = c.smaller-end.result - at in
-    let rows = start.args.rows.now in (
-      are_bits-take count (drop at rows) (are_bits-drop at rows start.requires.0),
+    let rows = c.args.rows.now in (
+      are_bits-take count (drop at rows) (are_bits-drop at rows c.requires.0),
       omega (arith, length-take count (drop at rows), c.smaller-end.ensures),
     )
 
@@ -28,31 +27,28 @@ next_step-step-requires c =
 
 pub store-written-requires : goal.store-written-requires
 store-written-requires c =
-    let start = c in
     let l = c.loop-at in
     let s = c.next_step-step in (
       s.ensures.few,
-      turn_fits l.invariant start.requires.2 c.smaller-end.result c.group_of-group.result s.result
+      turn_fits l.invariant c.requires.2 c.smaller-end.result c.group_of-group.result s.result
           c.loop-at-test.true c.smaller-end.ensures c.group_of-group.ensures s.ensures,
     )
 
 pub loop-at-preserved : goal.loop-at-preserved
 loop-at-preserved c =
-    let start = c in
     let l = c.loop-at in
     let s = c.next_step-step in
     let e = c.store-written.ensures in
     rw (e.0, e.1)
-    (turns l.invariant start.requires.2 c.smaller-end.result c.group_of-group.result s.result
+    (turns l.invariant c.requires.2 c.smaller-end.result c.group_of-group.result s.result
     c.loop-at-test.true c.smaller-end.ensures c.group_of-group.ensures s.ensures)
 
 pub finish-requires : goal.finish-requires
 finish-requires c =
-    let start = c in
     let l = c.loop-at in (
       l.invariant.writing.is_bit,
-      omega (arith, l.invariant.few, l.invariant.within, start.requires.1),
-      finish_fits l.invariant start.requires.2 c.loop-at-test.false,
+      omega (arith, l.invariant.few, l.invariant.within, c.requires.1),
+      finish_fits l.invariant c.requires.2 c.loop-at-test.false,
     )
 
 pub shape_of-out : goal.shape_of-out
@@ -62,7 +58,6 @@ shape_of-out c =
 
 pub returns : goal.returns
 returns c =
-    let start = c in
     let l = c.loop-at in
     let e = c.finish.ensures in
-    rw (e.0, e.1) (finishes l.invariant start.requires.2 c.loop-at-test.false)
+    rw (e.0, e.1) (finishes l.invariant c.requires.2 c.loop-at-test.false)

@@ -33,7 +33,7 @@ unpack_into-requires c =
     passes a.list.now a.length a.out.now c.if-length-gt-ROW_LIMIT.false c.if-out-length.false
     (sym c.in-Whole.is ∙ c.check.ensures) in
     let a = c.args in
-    has_rows a.list.now a.length a.out.now (can)
+    has_rows a.list.now a.length a.out.now can
 
 pub returns : goal.returns
 returns c =
@@ -43,4 +43,4 @@ returns c =
     (sym c.in-Whole.is ∙ c.check.ensures) in
     let a = c.args in
     let rows = c.unpack_into in
-    done a.list.now a.length a.out.now (can) rows.new.out rows.ensures
+    done a.list.now a.length a.out.now can rows.new.out rows.ensures

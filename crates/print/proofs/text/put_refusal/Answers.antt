@@ -13,14 +13,12 @@ put_digits-mark-requires c = (omega arith, omega (arith, length_refusal c.args.n
 
 pub put_digits-digits-requires : goal.put_digits-digits-requires
 put_digits-digits-requires c =
-    let marked : length c.put_digits-mark.new.out ≡ length c.args.out.now =
-    ap length c.put_digits-mark.ensures.1 ∙ simp length-sets in
+    let marked : length c.put_digits-mark.new.out ≡ length c.args.out.now = ap length c.put_digits-mark.ensures.1 ∙ simp length-sets in
     (omega arith, omega (arith, length_refusal c.args.number, c.requires, c.put_digits-mark.ensures.0, marked))
 
 pub put_newline-requires : goal.put_newline-requires
 put_newline-requires c =
-    let marked : length c.put_digits-mark.new.out ≡ length c.args.out.now =
-    ap length c.put_digits-mark.ensures.1 ∙ simp length-sets in
+    let marked : length c.put_digits-mark.new.out ≡ length c.args.out.now = ap length c.put_digits-mark.ensures.1 ∙ simp length-sets in
     let numbered : length c.put_digits-digits.new.out ≡ length c.put_digits-mark.new.out =
     ap length c.put_digits-digits.ensures.1 ∙ simp length-sets in
     omega (arith, length_refusal c.args.number, c.requires, c.put_digits-mark.ensures.0, c.put_digits-digits.ensures.0, marked, numbered)

@@ -14,17 +14,14 @@ put_digits-digits-requires c =
 
 pub put_words-words-requires : goal.put_words-words-requires
 put_words-words-requires c =
-    let valued : length c.put_digits-digits.new.out ≡ length c.args.out.now =
-    ap length c.put_digits-digits.ensures.1 ∙ simp length-sets in
+    let valued : length c.put_digits-digits.new.out ≡ length c.args.out.now = ap length c.put_digits-digits.ensures.1 ∙ simp length-sets in
     let list = c.args.list.now in
     omega (arith, length-value c.args.value list, length-words list, c.requires, c.put_digits-digits.ensures.0, valued)
 
 pub put_newline-requires : goal.put_newline-requires
 put_newline-requires c =
-    let valued : length c.put_digits-digits.new.out ≡ length c.args.out.now =
-    ap length c.put_digits-digits.ensures.1 ∙ simp length-sets in
-    let listed : length c.put_words-words.new.out ≡ length c.put_digits-digits.new.out =
-    ap length c.put_words-words.ensures.1 ∙ simp length-sets in
+    let valued : length c.put_digits-digits.new.out ≡ length c.args.out.now = ap length c.put_digits-digits.ensures.1 ∙ simp length-sets in
+    let listed : length c.put_words-words.new.out ≡ length c.put_digits-digits.new.out = ap length c.put_words-words.ensures.1 ∙ simp length-sets in
     let list = c.args.list.now in
     omega (
       arith,

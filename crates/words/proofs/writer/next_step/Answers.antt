@@ -19,6 +19,5 @@ step_literal-requires c = (omega arith, omega arith, c.if-group-eq0.false, c.if-
 
 pub returns : goal.returns
 returns c =
-    let s = c in
-    let once : s.args.count ≡ 1 = omega (arith, s.requires.3 c.if-group-eq0.false c.if-group-eq-ALL_ONES.false) in
+    let once : c.args.count ≡ 1 = omega (arith, c.requires.3 c.if-group-eq0.false c.if-group-eq-ALL_ONES.false) in
     rw once c.step_literal.ensures
