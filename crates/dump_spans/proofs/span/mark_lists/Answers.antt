@@ -91,7 +91,8 @@ mark_groups-requires c =
 
 pub returns-then-not-mark_groups : goal.returns-then-not-mark_groups
 returns-then-not-mark_groups c =
-    stops c.loop-sizes.invariant c.group_in.ensures c.group_in-in-loop-sizes.ensures c.alike_up_to-end.ensures c.mark_groups.ensures c.if-not-mark_groups.true
+    stops c.loop-sizes.invariant c.group_in.ensures c.group_in-in-loop-sizes.ensures c.alike_up_to-end.ensures c.mark_groups.ensures
+    c.if-not-mark_groups.true
 
 pub returns-then-end-span : goal.returns-then-end-span
 returns-then-end-span c =
@@ -124,6 +125,7 @@ loop-sizes-preserved c =
       record {
         more = omega arith;
         value_found = walked_on _ _ _ _ _ _ more refl reached.value_found c.walk_on.ensures c.in-Covered-walk_on.is;
-        update_found = walked_on _ _ _ _ _ _ more c.requires.0.update_room_is reached.update_found c.walk_on-in-loop-sizes.ensures c.in-Covered-walk_on-2.is;
+        update_found = walked_on _ _ _ _ _ _ more c.requires.0.update_room_is reached.update_found c.walk_on-in-loop-sizes.ensures
+            c.in-Covered-walk_on-2.is;
       },
     )
