@@ -217,3 +217,10 @@ module _ (bits from to issued : ℕ) where
           marked_middle front middle back starts (omega (arith, starts, part_length)) value (marked_in_group bits value)
           (λ i byte h. rw ((here i h).0, (here i h).1, zero-add) refl)
           ∙ ap (groups_marked (alike bits) from to issued value) (put_same (from * 31) (end - from * 31) rows)
+
+      -- what is said of the part, and left in it, is what the groups say and leave
+      pub told_part : (value : ℕ) {told : Bool} {next : List ℕ}
+          → (told ≡ every_row (free_in_group bits) 0 middle) × (told ≡ true → next ≡ each_row (marked_in_group bits value) 0 middle)
+          → (told ≡ groups_hold (alike bits) from to issued rows)
+          × (told ≡ true → put_mid (from * 31) (end - from * 31) rows next ≡ groups_marked (alike bits) from to issued value rows)
+      told_part value marks = (marks.0 ∙ holds_part, λ held. rw (marks.1 held) (marked_part value))

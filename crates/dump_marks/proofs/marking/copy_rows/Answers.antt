@@ -7,24 +7,14 @@ use Rattle.dump_marks.proofs.marking.Copied.{copies}
 use Rattle.dump_marks.proofs.marking.copy_rows.Goals as goal
 
 pub loop-i-init : goal.loop-i-init
-loop-i-init c =
-    let args = c.args in
-    (omega arith, refl, paste-zero args.to.now args.first (drop args.first args.from.now))
+loop-i-init c = (omega arith, refl, paste-zero c.args.to.now c.args.first (drop c.args.first c.args.from.now))
 
 pub loop-i-preserved : goal.loop-i-preserved
-loop-i-preserved c =
-    let loop = c.loop-i in
-    let args = c.args in (
-      omega arith,
-      simp length-set loop.invariant.1,
-      copies args.from.now args.to.now loop.to args.first loop.i loop.invariant.2 (omega arith) (omega arith),
-    )
-
-pub shape_of-to : goal.shape_of-to
-shape_of-to c = c.loop-i.invariant.1
+loop-i-preserved c = (
+  omega arith,
+  simp length-set c.loop-i.invariant.1,
+  copies c.args.from.now c.args.to.now c.loop-i.to c.args.first c.loop-i.i c.loop-i.invariant.2 (omega arith) (omega arith),
+)
 
 pub returns : goal.returns
-returns c =
-    let loop = c.loop-i in
-    let all : loop.i ≡ c.args.count = omega arith in
-    rw all at loop.invariant.2
+returns c = let all : c.loop-i.i ≡ c.args.count = omega arith in rw all at c.loop-i.invariant.2

@@ -4,14 +4,7 @@ use Rattle.dump_marks.proofs.marking.Uniform.{zeros-free, zeros_keep}
 use Rattle.dump_marks.proofs.marking.mark_alike.Goals as goal
 
 pub returns-then-bits-eq0 : goal.returns-then-bits-eq0
-returns-then-bits-eq0 c =
-    let args = c.args in
-    rw c.if-bits-eq0.true (sym (zeros-free args.rows.now), λ yes. sym (zeros_keep args.rows.now args.value))
+returns-then-bits-eq0 c = rw c.if-bits-eq0.true (sym (zeros-free c.args.rows.now), λ yes. sym (zeros_keep c.args.rows.now c.args.value))
 
 pub returns-then-bits-eq-ALL_ONES : goal.returns-then-bits-eq-ALL_ONES
 returns-then-bits-eq-ALL_ONES c = rw c.if-bits-eq-ALL_ONES.true c.mark_all.ensures
-
-pub mark_few-requires : goal.mark_few-requires
-mark_few-requires c =
-    let pre = c.requires in
-    (pre.1 c.if-bits-eq0.false c.if-bits-eq-ALL_ONES.false, pre.0)

@@ -10,13 +10,9 @@ loop-row-init c = begin _ _ c.args.rows.now
 
 pub loop-row-preserved : goal.loop-row-preserved
 loop-row-preserved c =
-    let loop = c.loop-row in
-    let row = loop.row in
-    next_row _ _ loop.invariant c.loop-row-test.true _ _ (omega arith) (rw (loop.invariant.left row (omega arith), ones-set row) refl)
-    (rw (ones-set row) refl)
-
-pub shape_of-rows : goal.shape_of-rows
-shape_of-rows c = c.loop-row.invariant.same
+    let ones = ones-set c.loop-row.row in
+    next_row _ _ c.loop-row.invariant c.loop-row-test.true _ _ (omega arith)
+    (rw (c.loop-row.invariant.left c.loop-row.row (omega arith), ones) refl) (rw ones refl)
 
 pub returns : goal.returns
 returns c = let all = ends _ _ c.loop-row.invariant c.loop-row-test.false in (all.0, λ yes. all.1)

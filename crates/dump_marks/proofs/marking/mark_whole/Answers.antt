@@ -9,12 +9,7 @@ pub loop-row-init : goal.loop-row-init
 loop-row-init c = begin _ _ c.args.rows.now
 
 pub loop-row-preserved : goal.loop-row-preserved
-loop-row-preserved c =
-    let loop = c.loop-row in
-    next-many _ _ loop.invariant (omega arith) (omega arith) _ _ c.by_bit-free.ensures c.by_bit.ensures
-
-pub shape_of-rows : goal.shape_of-rows
-shape_of-rows c = c.loop-row.invariant.same
+loop-row-preserved c = next-many _ _ c.loop-row.invariant (omega arith) (omega arith) _ _ c.by_bit-free.ensures c.by_bit.ensures
 
 pub returns : goal.returns
 unfolding groups_hold groups_marked

@@ -1,321 +1,131 @@
 -- `mark_lists` meets its contract. The loop's invariant: the groups before `group` are marked, and `v` and `u` are the words that cover `group`.
 -- Assumes nothing.
-use mathlib.Core.Path.{◌≡◌, ◌∙◌, ap, sym}
+use mathlib.Core.Path.{◌≡◌, ◌∙◌, refl, sym}
 use mathlib.Core.Bool.{Bool, true, false}
 use mathlib.Core.List.{List}
 use Prim.Native.Nat.{ℕ, ◌+◌, ◌-◌, ◌<◌, ◌≤◌}
 use native.Mathlib.Omega.{arith}
+use lib.Bits.{bit_xor}
 use lib.ListN.{length}
+use Rattle.groups.specs.Rows.{groups_for}
+use Rattle.words.specs.Words.{run_of, group_in}
+use Rattle.words.specs.Inner.{Alone}
 use Rattle.list_walk.specs.Walk.{walk_to}
-use Rattle.blocks.specs.Sizes.{update_room}
+use Rattle.list_walk.specs.declared.walk.Covering.{Covering}
+use Rattle.list_walk.specs.declared.walk.Walk.{Walk}
+use Rattle.list_walk.specs.declared.walk.Walk.TheVariants.{Covered}
+use Rattle.blocks.specs.declared.sizes.Sizes.{Sizes}
 use Rattle.block_read.specs.declared.read.Reading.{Reading}
 use Rattle.block_read.specs.declared.read.Reading.TheVariants.{Broken}
+use Rattle.dump_marks.specs.Inner.{alike}
 use Rattle.dump_spans.specs.Inner.{in_lists}
-use Rattle.dump_spans.specs.declared.span.Span.{Span}
 use Rattle.dump_spans.proofs.span.Spanning.{Spanned, Spanning, begin, keeps_length, ends, next-groups, stops_at, breaks_at}
-use Rattle.dump_spans.proofs.span.Reaching.{bits_small, value_broken, update_broken, read_alike}
+use Rattle.dump_spans.proofs.span.Reaching.{Reached, bits_small, value_broken, update_broken, read_alike}
 use Rattle.dump_spans.proofs.span.mark_lists.Goals as goal
+
+-- the first group is not read
+none_read : (reading : ℕ → Reading) (issued value from to : ℕ) (rows : List ℕ) → from < to → to ≤ groups_for issued → issued ≤ length rows
+    → reading from ≡ Broken → Spanned reading issued value from to rows rows false
+none_read reading issued value from to rows more on room broken =
+    breaks_at reading issued value (begin reading issued value from to rows (omega arith)) more (omega arith) room broken
+
+-- a walk that went on to group `end` is a walk there
+walked_on : (list : List ℕ) (first group end room limit : ℕ) → group < end → room ≡ limit → {v : Covering} {found is : Walk}
+    → walk_to list first group limit ≡ Covered v
+    → ((start before : ℕ) → walk_to list start before room ≡ Covered v → found ≡ walk_to list start (before + (end - group)) room)
+    → found ≡ is → walk_to list first end limit ≡ is
+walked_on list first group end room limit more same here on is =
+    let there : group + (end - group) ≡ end = omega arith in
+    rw (there, same) at (sym (on first group (rw (← same) at here)) ∙ is)
+
+-- a turn: the groups up to `end`, which the words of `group` cover, are marked
+module _ {sizes : Sizes} {list update : List ℕ} {first issued value from to group end : ℕ} {rows₀ rows next : List ℕ} {v u : Covering} {told : Bool}
+    (loop : Spanning (in_lists sizes list update first) issued value from to rows₀ rows group × Reached sizes list update first to group v u)
+    {in_v in_u : ℕ} (v_is : in_v ≡ group_in (run_of v.word)) (u_is : in_u ≡ group_in (run_of u.word))
+    (ahead : (group < end) × (end ≤ to) × (end - group ≤ v.beyond + 1) × (end - group ≤ u.beyond + 1) × Alone (bit_xor in_v in_u) (end - group))
+    (marks : Spanned (alike (bit_xor in_v in_u)) issued value group end rows next told) where
+  marked : Spanned (in_lists sizes list update first) issued value group end rows next told
+  marked = read_alike _ _ _ _ loop.1 end ahead.2 ahead.3 _ _ _ _ _ (rw (v_is, u_is) at marks)
+
+  stops : told ≡ false → Spanned (in_lists sizes list update first) issued value from to rows₀ next false
+  stops fails = stops_at _ _ _ loop.0 end ahead.0 ahead.1 next told fails marked
+
+  goes : told ≡ true → Spanning (in_lists sizes list update first) issued value from to rows₀ next end
+  goes holds = next-groups _ _ _ loop.0 end ahead.0 ahead.1 next told holds marked
+
+  -- but the next group is not read
+  breaks : told ≡ true → (end ≡ to → ⊥) → to ≤ groups_for issued → issued ≤ length rows₀ → in_lists sizes list update first end ≡ Broken
+      → Spanned (in_lists sizes list update first) issued value from to rows₀ next false
+  breaks holds other few room broken =
+      let done = goes holds in breaks_at _ _ _ done (omega arith) (omega arith) (omega (arith, keeps_length _ _ _ done)) broken
 
 pub returns-in_default : goal.returns-in_default
 returns-in_default c =
-    let start = c in
-    let args = start.args in
-    let broken = value_broken args.sizes args.list.now args.update.now args.first args.span.from
-    (sym c.walk_to.ensures ∙ c.in_default.is) in
-    let none = begin _ args.span.issued args.span.value args.span.from args.span.to args.rows.now (omega arith) in
-    breaks_at _ _ _ none start.requires.1 (omega arith) start.requires.3 broken
+    none_read _ _ _ _ _ _ c.requires.1 c.requires.2 c.requires.3 (value_broken c.args.sizes _ _ _ _ (sym c.walk_to.ensures ∙ c.in_default.is))
 
 pub returns-in_default-walk_to : goal.returns-in_default-walk_to
 returns-in_default-walk_to c =
-    let same-room : (group : ℕ) → walk_to c.args.update.now 0 group (update_room c.args.sizes) ≡ walk_to c.args.update.now 0 group c.args.sizes.update_room =
-    λ group. ap (walk_to c.args.update.now 0 group) (sym c.requires.0.update_room_is) in
-    let start = c in
-    let args = start.args in
-    let value = sym c.walk_to.ensures ∙ c.in-Covered.is in
-    let broken = update_broken args.sizes args.list.now args.update.now args.first args.span.from _ value
-    (same-room args.span.from ∙ sym c.walk_to-2.ensures ∙ c.in_default-walk_to.is) in
-    let none = begin _ args.span.issued args.span.value args.span.from args.span.to args.rows.now (omega arith) in
-    breaks_at _ _ _ none start.requires.1 (omega arith) start.requires.3 broken
+    none_read _ _ _ _ _ _ c.requires.1 c.requires.2 c.requires.3
+    (update_broken c.args.sizes _ _ _ _ _ (sym c.walk_to.ensures ∙ c.in-Covered.is)
+    (rw c.requires.0.update_room_is at (sym c.walk_to-2.ensures ∙ c.in_default-walk_to.is)))
 
 pub loop-sizes-init : goal.loop-sizes-init
-loop-sizes-init c =
-    let same-room : (group : ℕ) → walk_to c.args.update.now 0 group (update_room c.args.sizes) ≡ walk_to c.args.update.now 0 group c.args.sizes.update_room =
-    λ group. ap (walk_to c.args.update.now 0 group) (sym c.requires.0.update_room_is) in
-    let start = c in
-    let args = start.args in (
-      begin _ _ _ args.span.from args.span.to args.rows.now (omega arith),
-      record {
-        more = start.requires.1;
-        value_found = sym c.walk_to.ensures
-            ∙ c.in-Covered.is;
-        update_found = same-room args.span.from ∙ sym c.walk_to-2.ensures ∙ c.in-Covered-walk_to.is;
-      },
-    )
-
-pub alike_up_to-end-requires : goal.alike_up_to-end-requires
-alike_up_to-end-requires c = c.loop-sizes.invariant.1.more
+loop-sizes-init c = (
+  begin _ _ _ _ _ _ (omega arith),
+  record {
+    more = c.requires.1;
+    value_found = sym c.walk_to.ensures ∙ c.in-Covered.is;
+    update_found = rw c.requires.0.update_room_is at (sym c.walk_to-2.ensures ∙ c.in-Covered-walk_to.is);
+  },
+)
 
 pub mark_groups-requires : goal.mark_groups-requires
 mark_groups-requires c =
-    let loop = c.loop-sizes in
-    let pre = c.requires in
-    let end = c.alike_up_to-end.ensures in (
-      rw (c.group_in.ensures, c.group_in-in-loop-sizes.ensures) (bits_small loop.v loop.u),
-      end.0,
-      end.4,
-      omega (arith, end.1, pre.2),
-      omega (arith, keeps_length _ _ _ loop.invariant.0, pre.3),
+    let same = keeps_length _ _ _ c.loop-sizes.invariant.0 in (
+      rw (c.group_in.ensures, c.group_in-in-loop-sizes.ensures) (bits_small c.loop-sizes.v c.loop-sizes.u),
+      omega arith,
+      c.alike_up_to-end.ensures.4,
+      omega arith,
+      omega arith,
     )
-
-pub shape_of-rows-then-not-mark_groups : goal.shape_of-rows-then-not-mark_groups
-shape_of-rows-then-not-mark_groups c =
-    let next : List ℕ =
-    c.mark_groups.new.rows in
-    let same : length (next) ≡ length c.args.rows.now =
-    c.rows-1.given ∙ keeps_length _ _ _ c.loop-sizes.invariant.0 in
-    same
 
 pub returns-then-not-mark_groups : goal.returns-then-not-mark_groups
 returns-then-not-mark_groups c =
-    let reads : ℕ → Reading =
-    let args = c.args in in_lists args.sizes args.list.now args.update.now args.first in
-    let asked : Span =
-    c.args.span in
-    let Says : ℕ → ℕ → List ℕ → List ℕ → Bool → Type 0 =
-    Spanned (reads) (asked).issued (asked).value in
-    let end : ℕ =
-    c.alike_up_to-end.result in
-    let next : List ℕ =
-    c.mark_groups.new.rows in
-    let held : Bool =
-    c.mark_groups.result in
-    let further : (c.loop-sizes.group < (end)) × ((end) ≤ (asked).to) =
-    let ensures = c.alike_up_to-end.ensures in (ensures.0, ensures.1) in
-    let marked : Says c.loop-sizes.group (end) c.loop-sizes.rows (next) (held) =
-    let ensures = c.alike_up_to-end.ensures in
-    let value = c.group_in.ensures in
-    let update = c.group_in-in-loop-sizes.ensures in
-    read_alike _ _ _ _ c.loop-sizes.invariant.1 (end) ensures.2 ensures.3 _ _ _ _ _ (rw (value, update) at c.mark_groups.ensures) in
-    let stops : (held) ≡ false → Says (asked).from (asked).to c.args.rows.now (next) false =
-    λ fails. stops_at _ _ _ c.loop-sizes.invariant.0 (end) (further).0 (further).1 (next) (held) fails (marked) in
-    stops (c.if-not-mark_groups.true)
-
-pub shape_of-rows-then-end-span : goal.shape_of-rows-then-end-span
-shape_of-rows-then-end-span c =
-    let next : List ℕ =
-    c.mark_groups.new.rows in
-    let same : length (next) ≡ length c.args.rows.now =
-    c.rows-1.given ∙ keeps_length _ _ _ c.loop-sizes.invariant.0 in
-    same
+    stops c.loop-sizes.invariant c.group_in.ensures c.group_in-in-loop-sizes.ensures c.alike_up_to-end.ensures c.mark_groups.ensures
+    c.if-not-mark_groups.true
 
 pub returns-then-end-span : goal.returns-then-end-span
 returns-then-end-span c =
-    let reads : ℕ → Reading =
-    let args = c.args in in_lists args.sizes args.list.now args.update.now args.first in
-    let asked : Span =
-    c.args.span in
-    let Says : ℕ → ℕ → List ℕ → List ℕ → Bool → Type 0 =
-    Spanned (reads) (asked).issued (asked).value in
-    let end : ℕ =
-    c.alike_up_to-end.result in
-    let next : List ℕ =
-    c.mark_groups.new.rows in
-    let held : Bool =
-    c.mark_groups.result in
-    let further : (c.loop-sizes.group < (end)) × ((end) ≤ (asked).to) =
-    let ensures = c.alike_up_to-end.ensures in (ensures.0, ensures.1) in
-    let marked : Says c.loop-sizes.group (end) c.loop-sizes.rows (next) (held) =
-    let ensures = c.alike_up_to-end.ensures in
-    let value = c.group_in.ensures in
-    let update = c.group_in-in-loop-sizes.ensures in
-    read_alike _ _ _ _ c.loop-sizes.invariant.1 (end) ensures.2 ensures.3 _ _ _ _ _ (rw (value, update) at c.mark_groups.ensures) in
-    let goes : (held) ≡ true → Spanning (reads) (asked).issued (asked).value (asked).from (asked).to c.args.rows.now (next) (end) =
-    λ holds. next-groups _ _ _ c.loop-sizes.invariant.0 (end) (further).0 (further).1 (next) (held) holds (marked) in
-    let called = c in
-    ends _ _ _ (goes (c.if-not-mark_groups.false)) (omega (arith, c.if-end-span.true))
-
-pub overflow_sub-end : goal.overflow_sub-end
-overflow_sub-end c =
-    let asked : Span =
-    c.args.span in
-    let end : ℕ =
-    c.alike_up_to-end.result in
-    let further : (c.loop-sizes.group < (end)) × ((end) ≤ (asked).to) =
-    let ensures = c.alike_up_to-end.ensures in (ensures.0, ensures.1) in
-    omega (arith, (further).0)
-
-pub walk_on-requires : goal.walk_on-requires
-walk_on-requires c = c.alike_up_to-end.ensures.2
-
-pub shape_of-rows-in_default-walk_on : goal.shape_of-rows-in_default-walk_on
-shape_of-rows-in_default-walk_on c =
-    let next : List ℕ =
-    c.mark_groups.new.rows in
-    let same : length (next) ≡ length c.args.rows.now =
-    c.rows-1.given ∙ keeps_length _ _ _ c.loop-sizes.invariant.0 in
-    same
+    let done = goes c.loop-sizes.invariant c.group_in.ensures c.group_in-in-loop-sizes.ensures c.alike_up_to-end.ensures c.mark_groups.ensures
+    c.if-not-mark_groups.false in
+    ends _ _ _ done (omega arith)
 
 pub returns-in_default-walk_on : goal.returns-in_default-walk_on
 returns-in_default-walk_on c =
-    let reads : ℕ → Reading =
-    let args = c.args in in_lists args.sizes args.list.now args.update.now args.first in
-    let asked : Span =
-    c.args.span in
-    let Says : ℕ → ℕ → List ℕ → List ℕ → Bool → Type 0 =
-    Spanned (reads) (asked).issued (asked).value in
-    let end : ℕ =
-    c.alike_up_to-end.result in
-    let next : List ℕ =
-    c.mark_groups.new.rows in
-    let held : Bool =
-    c.mark_groups.result in
-    let further : (c.loop-sizes.group < (end)) × ((end) ≤ (asked).to) =
-    let ensures = c.alike_up_to-end.ensures in (ensures.0, ensures.1) in
-    let same : length (next) ≡ length c.args.rows.now =
-    c.rows-1.given ∙ keeps_length _ _ _ c.loop-sizes.invariant.0 in
-    let marked : Says c.loop-sizes.group (end) c.loop-sizes.rows (next) (held) =
-    let ensures = c.alike_up_to-end.ensures in
-    let value = c.group_in.ensures in
-    let update = c.group_in-in-loop-sizes.ensures in
-    read_alike _ _ _ _ c.loop-sizes.invariant.1 (end) ensures.2 ensures.3 _ _ _ _ _ (rw (value, update) at c.mark_groups.ensures) in
-    let goes : (held) ≡ true → Spanning (reads) (asked).issued (asked).value (asked).from (asked).to c.args.rows.now (next) (end) =
-    λ holds. next-groups _ _ _ c.loop-sizes.invariant.0 (end) (further).0 (further).1 (next) (held) holds (marked) in
-    let left : end < (asked).to =
-    omega (arith, (further).1, c.if-end-span.false) in
-    let there : c.loop-sizes.group + (end - c.loop-sizes.group) ≡ end =
-    omega (arith, (further).0) in
-    let done : Spanning (reads) (asked).issued (asked).value (asked).from (asked).to c.args.rows.now (next) (end) =
-    goes (c.if-not-mark_groups.false) in
-    let breaks : reads (end) ≡ Broken → Says (asked).from (asked).to c.args.rows.now (next) false =
-    λ broken. let pre = c.requires in
-    breaks_at _ _ _ (done) (left) (omega (arith, (left), pre.2)) (omega (arith, same, pre.3)) broken in
-    let tested = c in
-    let args = tested.args in
-    let loop = tested.loop-sizes in
-    let on = c.walk_on.ensures args.first loop.group loop.invariant.1.value_found in
-    breaks (value_broken args.sizes _ _ _ _ (rw (there) at (sym on ∙ c.in_default-walk_on.is)))
-
-pub overflow_sub-end-in-loop-sizes : goal.overflow_sub-end-in-loop-sizes
-overflow_sub-end-in-loop-sizes c =
-    let asked : Span =
-    c.args.span in
-    let end : ℕ =
-    c.alike_up_to-end.result in
-    let further : (c.loop-sizes.group < (end)) × ((end) ≤ (asked).to) =
-    let ensures = c.alike_up_to-end.ensures in (ensures.0, ensures.1) in
-    omega (arith, (further).0)
-
-pub walk_on-requires-in-loop-sizes : goal.walk_on-requires-in-loop-sizes
-walk_on-requires-in-loop-sizes c = c.alike_up_to-end.ensures.3
-
-pub shape_of-rows-in_default-walk_on-2 : goal.shape_of-rows-in_default-walk_on-2
-shape_of-rows-in_default-walk_on-2 c =
-    let next : List ℕ =
-    c.mark_groups.new.rows in
-    let same : length (next) ≡ length c.args.rows.now =
-    c.rows-1.given ∙ keeps_length _ _ _ c.loop-sizes.invariant.0 in
-    same
+    breaks c.loop-sizes.invariant c.group_in.ensures c.group_in-in-loop-sizes.ensures c.alike_up_to-end.ensures c.mark_groups.ensures
+    c.if-not-mark_groups.false c.if-end-span.false c.requires.2 c.requires.3
+    (value_broken c.args.sizes _ _ _ _
+    (walked_on _ _ _ _ _ _ c.alike_up_to-end.ensures.0 refl c.loop-sizes.invariant.1.value_found c.walk_on.ensures c.in_default-walk_on.is))
 
 pub returns-in_default-walk_on-2 : goal.returns-in_default-walk_on-2
 returns-in_default-walk_on-2 c =
-    let same-room : (group : ℕ) → walk_to c.args.update.now 0 group (update_room c.args.sizes) ≡ walk_to c.args.update.now 0 group c.args.sizes.update_room =
-    λ group. ap (walk_to c.args.update.now 0 group) (sym c.requires.0.update_room_is) in
-    let reads : ℕ → Reading =
-    let args = c.args in in_lists args.sizes args.list.now args.update.now args.first in
-    let asked : Span =
-    c.args.span in
-    let Says : ℕ → ℕ → List ℕ → List ℕ → Bool → Type 0 =
-    Spanned (reads) (asked).issued (asked).value in
-    let end : ℕ =
-    c.alike_up_to-end.result in
-    let next : List ℕ =
-    c.mark_groups.new.rows in
-    let held : Bool =
-    c.mark_groups.result in
-    let further : (c.loop-sizes.group < (end)) × ((end) ≤ (asked).to) =
-    let ensures = c.alike_up_to-end.ensures in (ensures.0, ensures.1) in
-    let same : length (next) ≡ length c.args.rows.now =
-    c.rows-1.given ∙ keeps_length _ _ _ c.loop-sizes.invariant.0 in
-    let marked : Says c.loop-sizes.group (end) c.loop-sizes.rows (next) (held) =
-    let ensures = c.alike_up_to-end.ensures in
-    let value = c.group_in.ensures in
-    let update = c.group_in-in-loop-sizes.ensures in
-    read_alike _ _ _ _ c.loop-sizes.invariant.1 (end) ensures.2 ensures.3 _ _ _ _ _ (rw (value, update) at c.mark_groups.ensures) in
-    let goes : (held) ≡ true → Spanning (reads) (asked).issued (asked).value (asked).from (asked).to c.args.rows.now (next) (end) =
-    λ holds. next-groups _ _ _ c.loop-sizes.invariant.0 (end) (further).0 (further).1 (next) (held) holds (marked) in
-    let left : end < (asked).to =
-    omega (arith, (further).1, c.if-end-span.false) in
-    let there : c.loop-sizes.group + (end - c.loop-sizes.group) ≡ end =
-    omega (arith, (further).0) in
-    let done : Spanning (reads) (asked).issued (asked).value (asked).from (asked).to c.args.rows.now (next) (end) =
-    goes (c.if-not-mark_groups.false) in
-    let breaks : reads (end) ≡ Broken → Says (asked).from (asked).to c.args.rows.now (next) false =
-    λ broken. let pre = c.requires in
-    breaks_at _ _ _ (done) (left) (omega (arith, (left), pre.2)) (omega (arith, same, pre.3)) broken in
-    let value-next : walk_to c.args.list.now c.args.first (end) c.args.sizes.spacing ≡ c.walk_on.result =
-    let loop = c.loop-sizes in
-    sym (rw (there) at (c.walk_on.ensures c.args.first loop.group loop.invariant.1.value_found)) in
-    let update-next : walk_to c.args.update.now 0 (end) (update_room c.args.sizes) ≡ c.walk_on-in-loop-sizes.result =
-    let loop = c.loop-sizes in
-    let here = sym (same-room loop.group) ∙ loop.invariant.1.update_found in
-    same-room (end) ∙ sym (rw (there) at (c.walk_on-in-loop-sizes.ensures 0 loop.group here)) in
-    let walked = c in
-    breaks
-    (update_broken walked.args.sizes _ _ _ _ _ (value-next ∙ c.in-Covered-walk_on.is) (update-next ∙ c.in_default-walk_on-2.is))
-
-pub loop-sizes-smaller : goal.loop-sizes-smaller
-loop-sizes-smaller c =
-    let asked : Span =
-    c.args.span in
-    let end : ℕ =
-    c.alike_up_to-end.result in
-    let further : (c.loop-sizes.group < (end)) × ((end) ≤ (asked).to) =
-    let ensures = c.alike_up_to-end.ensures in (ensures.0, ensures.1) in
-    let before = c in omega (arith, (further).0, (further).1)
+    let more = c.alike_up_to-end.ensures.0 in
+    let reached = c.loop-sizes.invariant.1 in
+    breaks c.loop-sizes.invariant c.group_in.ensures c.group_in-in-loop-sizes.ensures c.alike_up_to-end.ensures c.mark_groups.ensures
+    c.if-not-mark_groups.false c.if-end-span.false c.requires.2 c.requires.3
+    (update_broken c.args.sizes _ _ _ _ _ (walked_on _ _ _ _ _ _ more refl reached.value_found c.walk_on.ensures c.in-Covered-walk_on.is)
+    (walked_on _ _ _ _ _ _ more c.requires.0.update_room_is reached.update_found c.walk_on-in-loop-sizes.ensures c.in_default-walk_on-2.is))
 
 pub loop-sizes-preserved : goal.loop-sizes-preserved
 loop-sizes-preserved c =
-    let same-room : (group : ℕ) → walk_to c.args.update.now 0 group (update_room c.args.sizes) ≡ walk_to c.args.update.now 0 group c.args.sizes.update_room =
-    λ group. ap (walk_to c.args.update.now 0 group) (sym c.requires.0.update_room_is) in
-    let reads : ℕ → Reading =
-    let args = c.args in in_lists args.sizes args.list.now args.update.now args.first in
-    let asked : Span =
-    c.args.span in
-    let Says : ℕ → ℕ → List ℕ → List ℕ → Bool → Type 0 =
-    Spanned (reads) (asked).issued (asked).value in
-    let end : ℕ =
-    c.alike_up_to-end.result in
-    let next : List ℕ =
-    c.mark_groups.new.rows in
-    let held : Bool =
-    c.mark_groups.result in
-    let further : (c.loop-sizes.group < (end)) × ((end) ≤ (asked).to) =
-    let ensures = c.alike_up_to-end.ensures in (ensures.0, ensures.1) in
-    let marked : Says c.loop-sizes.group (end) c.loop-sizes.rows (next) (held) =
-    let ensures = c.alike_up_to-end.ensures in
-    let value = c.group_in.ensures in
-    let update = c.group_in-in-loop-sizes.ensures in
-    read_alike _ _ _ _ c.loop-sizes.invariant.1 (end) ensures.2 ensures.3 _ _ _ _ _ (rw (value, update) at c.mark_groups.ensures) in
-    let goes : (held) ≡ true → Spanning (reads) (asked).issued (asked).value (asked).from (asked).to c.args.rows.now (next) (end) =
-    λ holds. next-groups _ _ _ c.loop-sizes.invariant.0 (end) (further).0 (further).1 (next) (held) holds (marked) in
-    let left : end < (asked).to =
-    omega (arith, (further).1, c.if-end-span.false) in
-    let there : c.loop-sizes.group + (end - c.loop-sizes.group) ≡ end =
-    omega (arith, (further).0) in
-    let done : Spanning (reads) (asked).issued (asked).value (asked).from (asked).to c.args.rows.now (next) (end) =
-    goes (c.if-not-mark_groups.false) in
-    let value-next : walk_to c.args.list.now c.args.first (end) c.args.sizes.spacing ≡ c.walk_on.result =
-    let loop = c.loop-sizes in
-    sym (rw (there) at (c.walk_on.ensures c.args.first loop.group loop.invariant.1.value_found)) in
-    let update-next : walk_to c.args.update.now 0 (end) (update_room c.args.sizes) ≡ c.walk_on-in-loop-sizes.result =
-    let loop = c.loop-sizes in
-    let here = sym (same-room loop.group) ∙ loop.invariant.1.update_found in
-    same-room (end) ∙ sym (rw (there) at (c.walk_on-in-loop-sizes.ensures 0 loop.group here)) in
-    let walked = c in (
-      done,
+    let more = c.alike_up_to-end.ensures.0 in
+    let reached = c.loop-sizes.invariant.1 in (
+      goes c.loop-sizes.invariant c.group_in.ensures c.group_in-in-loop-sizes.ensures c.alike_up_to-end.ensures c.mark_groups.ensures
+          c.if-not-mark_groups.false,
       record {
-        more = left;
-        value_found = value-next ∙ c.in-Covered-walk_on.is;
-        update_found = update-next ∙ c.in-Covered-walk_on-2.is;
+        more = omega arith;
+        value_found = walked_on _ _ _ _ _ _ more refl reached.value_found c.walk_on.ensures c.in-Covered-walk_on.is;
+        update_found = walked_on _ _ _ _ _ _ more c.requires.0.update_room_is reached.update_found c.walk_on-in-loop-sizes.ensures
+            c.in-Covered-walk_on-2.is;
       },
     )

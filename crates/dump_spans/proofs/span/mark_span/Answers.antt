@@ -1,68 +1,47 @@
 -- `mark_span` meets its contract: no group is nothing to do, a length or a place past its limit is damage, and else the lists are walked.
 -- Assumes nothing.
-use mathlib.Core.Path.{◌≡◌, ◌∙◌, ap}
-use Prim.Native.Nat.{◌<◌, ◌≤◌}
+use mathlib.Core.Path.{◌≡◌, ap}
+use mathlib.Core.List.{List}
+use Prim.Native.Nat.{ℕ, ◌<◌, ◌≤◌}
 use native.Mathlib.Omega.{arith}
 use lib.ListN.{length}
-use Rattle.blocks.specs.Sizes.{value_room, update_room}
-use Rattle.blocks.specs.Block.{value_length, update_length}
+use Rattle.blocks.specs.Sizes.{value_room, block_size}
+use Rattle.blocks.specs.Block.{value_length, value_list}
+use Rattle.blocks.specs.declared.sizes.Sizes.{Sizes}
 use Rattle.blocks.proofs.Blocks.{length-value_list}
 use Rattle.dump_spans.proofs.span.InBlock.{none_told, long_told, misplaced_told, updates_told, lists_told}
 use Rattle.dump_spans.proofs.span.mark_span.Goals as goal
 
+-- the fence's word is in the list
+within : (sizes : Sizes) (block list : List ℕ) (place : ℕ) → length block ≡ block_size sizes → list ≡ value_list sizes block
+    → value_length block ≤ value_room sizes → place < value_length block → place < length list
+within sizes block list place whole is short inside = omega (arith, ap length is, length-value_list sizes block whole short)
+
 pub returns-then-span : goal.returns-then-span
-returns-then-span c =
-    let args = c.args in
-    none_told args.sizes args.fence args.block.now args.span args.rows.now c.if-span.true
+returns-then-span c = none_told c.args.sizes c.args.fence c.args.block.now c.args.span c.args.rows.now c.if-span.true
 
 pub returns-then-sizes-length : goal.returns-then-sizes-length
 returns-then-sizes-length c =
-    let start = c in
-    let args = start.args in
-    long_told args.sizes args.fence args.block.now args.span args.rows.now (omega arith) start.requires.3 start.requires.4 (omega arith)
+    long_told c.args.sizes c.args.fence c.args.block.now c.args.span c.args.rows.now (omega arith) c.requires.3 c.requires.4 (omega arith)
 
 pub returns-then-length-place : goal.returns-then-length-place
 returns-then-length-place c =
-    let start = c in
-    let args = start.args in
-    misplaced_told args.sizes args.fence args.block.now args.span args.rows.now (omega arith) start.requires.3 start.requires.4
-    (omega arith) (omega arith)
+    misplaced_told c.args.sizes c.args.fence c.args.block.now c.args.span c.args.rows.now (omega arith) c.requires.3 c.requires.4 (omega arith)
+    (omega arith)
 
 pub returns-then-sizes-update_length : goal.returns-then-sizes-update_length
 returns-then-sizes-update_length c =
-    let start = c in
-    let args = start.args in
-    updates_told args.sizes args.fence args.block.now args.span args.rows.now (omega arith) start.requires.3 start.requires.4 (omega arith)
+    updates_told c.args.sizes c.args.fence c.args.block.now c.args.span c.args.rows.now (omega arith) c.requires.3 c.requires.4 (omega arith)
 
 pub slice_bounds-mark_lists-count : goal.slice_bounds-mark_lists-count
 slice_bounds-mark_lists-count c =
-    let short : value_length c.args.block.now ≤ value_room c.args.sizes =
-    omega arith in
-    let inside : c.args.fence.place < value_length c.args.block.now =
-    omega arith in
-    let long : length c.value_list-list.result.now ≡ value_length c.args.block.now =
-    ap length c.value_list-list.ensures ∙ length-value_list c.args.sizes c.args.block.now c.requires.1 (short) in
-    omega (arith, long, inside)
+    omega (arith, within c.args.sizes c.args.block.now _ c.args.fence.place c.requires.1 c.value_list-list.ensures (omega arith) (omega arith))
 
 pub slice_bounds-mark_lists-start : goal.slice_bounds-mark_lists-start
 slice_bounds-mark_lists-start c =
-    let short : value_length c.args.block.now ≤ value_room c.args.sizes =
-    omega arith in
-    let inside : c.args.fence.place < value_length c.args.block.now =
-    omega arith in
-    let long : length c.value_list-list.result.now ≡ value_length c.args.block.now =
-    ap length c.value_list-list.ensures ∙ length-value_list c.args.sizes c.args.block.now c.requires.1 (short) in
-    omega (arith, long, inside)
+    omega (arith, within c.args.sizes c.args.block.now _ c.args.fence.place c.requires.1 c.value_list-list.ensures (omega arith) (omega arith))
 
 pub returns : goal.returns
 returns c =
-    let short : value_length c.args.block.now ≤ value_room c.args.sizes =
-    omega arith in
-    let inside : c.args.fence.place < value_length c.args.block.now =
-    omega arith in
-    let few : update_length c.args.block.now ≤ update_room c.args.sizes =
-    omega arith in
-    let lists = c in
-    let args = lists.args in
-    lists_told args.sizes args.fence args.block.now args.span args.rows.now (short) (inside) (few) _ _
-    lists.value_list-list.ensures lists.update_list-update.ensures _ _ c.mark_lists.ensures
+    lists_told c.args.sizes c.args.fence c.args.block.now c.args.span c.args.rows.now (omega arith) (omega arith) (omega arith) _ _
+    c.value_list-list.ensures c.update_list-update.ensures _ _ c.mark_lists.ensures
