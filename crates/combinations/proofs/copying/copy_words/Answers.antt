@@ -5,10 +5,5 @@ use Rattle.combinations.proofs.copying.copy_words.Goals as goal
 
 pub returns : goal.returns
 returns c =
-    let start = c in
-    let a = start.args in
-    let copy = c.copy in (
-      refl,
-      part_copied a.list.now a.out.now a.from a.words a.at start.requires.0 start.requires.1
-          copy.new.out copy.ensures,
-    )
+    let a = c.args in
+    (refl, part_copied a.list.now a.out.now a.from a.words a.at c.requires.0 c.requires.1 c.copy.new.out c.copy.ensures)

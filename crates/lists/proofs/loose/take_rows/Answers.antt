@@ -1,6 +1,8 @@
 -- `take_rows` meets its contract. The loop's invariant: the rows in front of place i are taken, and no row is shared where none is so far and
 -- none is still to come.
+use Prim.Native.Nat.{◌<◌, ◌≤◌}
 use native.Mathlib.Omega.{arith}
+use lib.ListN.{length}
 use Rattle.lists.proofs.loose.Loops.{begins, unread, replaces, replaced, shares_begin, shares_more, shares_all, taken_length, taken_at}
 use Rattle.lists.proofs.loose.take_rows.Goals as goal
 
@@ -12,23 +14,16 @@ loop-i-init c =
 
 pub loop-i-preserved : goal.loop-i-preserved
 loop-i-preserved c =
-    let start = c in
-    let loop = c.loop-i in
-    let taken = start.args.taken.now in
-    let groups = start.args.groups.now in
-    let here = unread loop.invariant.0 (omega (arith, start.requires.2)) in (
-      replaces loop.invariant.0 (omega (arith, start.requires.2)) _
-          (rw here (taken_at taken groups start.requires.2 start.requires.0 start.requires.1 loop.i (omega (arith, start.requires.2)))),
-      rw here (shares_more taken groups start.requires.2 start.requires.0 start.requires.1 loop.i (omega (arith, start.requires.2)) loop.twice loop.invariant.1),
+    let taken = c.args.taken.now in
+    let groups = c.args.groups.now in
+    let k = c.loop-i.invariant in
+    let inside : c.loop-i.i < length taken = omega (arith, c.requires.2) in
+    rw (unread k.0 inside) (
+      replaces k.0 inside _ (taken_at taken groups c.requires.2 c.requires.0 c.requires.1 c.loop-i.i inside),
+      shares_more taken groups c.requires.2 c.requires.0 c.requires.1 c.loop-i.i inside c.loop-i.twice k.1,
     )
-
-pub shape_of-taken : goal.shape_of-taken
-shape_of-taken c = c.loop-i.invariant.0.same
 
 pub returns : goal.returns
 returns c =
-    let start = c in
-    let loop = c.loop-i in (
-      shares_all start.args.taken.now start.args.groups.now start.requires.2 loop.twice loop.i (omega (arith, start.requires.2)) loop.invariant.1,
-      replaced loop.invariant.0 (omega (arith, start.requires.2)),
-    )
+    let all : length c.args.taken.now ≤ c.loop-i.i = omega (arith, c.requires.2) in
+    (shares_all c.args.taken.now c.args.groups.now c.requires.2 c.loop-i.twice c.loop-i.i all c.loop-i.invariant.1, replaced c.loop-i.invariant.0 all)
