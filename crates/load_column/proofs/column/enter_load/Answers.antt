@@ -2,12 +2,4 @@
 use Rattle.load_column.proofs.column.enter_load.Goals as goal
 
 pub returns : goal.returns
-returns c =
-    let valid = c in
-    rw (
-      ← valid.header_for-empty.ensures,
-      ← valid.enter_index-lent.ensures,
-      ← valid.column_valid.ensures,
-      ← c.ask-valid.ensures,
-    )
-    c.ask.ensures
+returns c = rw (← c.header_for-empty.ensures, ← c.enter_index-lent.ensures, ← c.column_valid.ensures, ← c.ask-valid.ensures) c.ask.ensures

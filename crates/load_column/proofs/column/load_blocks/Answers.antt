@@ -5,11 +5,7 @@ use Rattle.load_column.proofs.column.load_blocks.Goals as goal
 
 pub returns : goal.returns
 returns c =
-    let start = c in
-    let a = start.args in
-    let spread = c.spread in
-    let filled = c.groups_for.ensures in
     c.pack_blocks.ensures
-    ∙ rw filled
-    (spread_packed a.sizes start.requires.0 a.column.now start.requires.3 a.values a.words.now spread.new.words
-    (rw start.requires.0.block_is at spread.ensures))
+    ∙ rw c.groups_for.ensures
+    (spread_packed c.args.sizes c.requires.0 c.args.column.now c.requires.3 c.args.values c.args.words.now c.spread.new.words
+    (rw c.requires.0.block_is at c.spread.ensures))

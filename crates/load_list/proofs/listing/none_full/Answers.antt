@@ -1,25 +1,17 @@
 -- `none_full` meets its contract: none is all ones where none was so far and none of those to come is. Assumes nothing.
-use mathlib.Core.Path.{refl, ◌∙◌, sym}
-use mathlib.Core.Logic.{⊎_elim}
+use mathlib.Core.Path.{◌∙◌, sym}
 use native.Mathlib.Omega.{arith}
 use Rattle.load_list.proofs.listing.Sparse.{full-more, full_all}
 use Rattle.load_list.proofs.listing.none_full.Goals as goal
-
-pub loop-i-init : goal.loop-i-init
-loop-i-init c = (omega arith, refl)
+use Rattle.load_list.proofs.listing.none_full.Goals.{then-groups-i-eq-ALL_ONES, else-groups-i-eq-ALL_ONES}
 
 pub loop-i-preserved : goal.loop-i-preserved
 loop-i-preserved c =
-    let loop = c.loop-i in
-    let groups = c.args.groups.now in (
-      omega arith,
-      loop.invariant.1
-          ∙ full-more groups loop.full loop.i (omega arith) c.if-groups-i-eq-ALL_ONES.full
-          (λ is. ⊎_elim (λ w. omega arith) (λ w. omega arith) c.if-groups-i-eq-ALL_ONES.branch-raw)
-          (λ other. ⊎_elim (λ w. absurd (other (omega arith))) (λ w. omega arith) c.if-groups-i-eq-ALL_ONES.branch-raw),
-    )
+    let more = full-more c.args.groups.now c.loop-i.full c.loop-i.i (omega arith) c.if-groups-i-eq-ALL_ONES.full in
+    elim c.if-groups-i-eq-ALL_ONES.branch [
+      | then-groups-i-eq-ALL_ONES w ↦ (omega arith, c.loop-i.invariant.1 ∙ more (λ is. omega arith) (λ other. absurd (other (omega arith))))
+      | else-groups-i-eq-ALL_ONES w ↦ (omega arith, c.loop-i.invariant.1 ∙ more (λ is. omega arith) (λ other. omega arith))
+    ]
 
 pub returns : goal.returns
-returns c =
-    let loop = c.loop-i in
-    sym (loop.invariant.1 ∙ full_all c.args.groups.now loop.full loop.i (omega arith))
+returns c = sym (c.loop-i.invariant.1 ∙ full_all c.args.groups.now c.loop-i.full c.loop-i.i (omega arith))

@@ -8,7 +8,6 @@ use Rattle.load_list.proofs.listing.put_part.Goals as goal
 
 pub returns-then-all_alike : goal.returns-then-all_alike
 returns-then-all_alike c =
-    let start = c in
-    let a = start.args in
-    rw (alike-replicate (a.pending.bit * all_ones) a.groups.now 8 start.requires.1 (sym c.all_alike.ensures ∙ c.if-all_alike.true))
-    (follows_run a.pending 8 a.at a.out.now start.requires.0.is_bit)
+    let alike = sym c.all_alike.ensures ∙ c.if-all_alike.true in
+    rw (alike-replicate (c.args.pending.bit * all_ones) c.args.groups.now 8 c.requires.1 alike)
+    (follows_run c.args.pending 8 c.args.at c.args.out.now c.requires.0.is_bit)
