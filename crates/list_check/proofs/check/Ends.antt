@@ -55,11 +55,11 @@ module _ (list : List ℕ) (rows : ℕ) where
       go false e = not_formed list rows (rw e refl)
 
   -- the list keeps the form and covers M groups: the test of its last group decides
-  pub ends : (groups : ℕ) → groups ≡ groups_for rows → well_formed no_fill (map run_of list) && eqb (length (decode list)) groups ≡ true
-      → (last : ℕ) → last ≡ group_in (run_at list (length list - 1)) → (clear : Bool) → clear ≡ eqb (last % 2 ^ (groups * 31 - rows)) 0
-      → cond clear Whole Bad ≡ check_of list rows
-  ends groups g formed last l clear t =
+  pub ends : {groups : ℕ} → groups ≡ groups_for rows → well_formed no_fill (map run_of list) && eqb (length (decode list)) groups ≡ true
+      → {last : ℕ} → last ≡ group_in (run_at list (length list - 1)) → {clear told : Bool} → clear ≡ eqb (last % 2 ^ (groups * 31 - rows)) 0
+      → clear ≡ told → cond told Whole Bad ≡ check_of list rows
+  ends {groups} g formed l t side =
       let parts = (and-eq-true_iff (well_formed no_fill (map run_of list)) (eqb (length (decode list)) groups)).0 formed in
       let long = eqb-true (length (decode list)) groups parts.1 in
       let unused : groups * 31 - rows ≡ 31 * length (decode list) - rows = omega arith in
-      rw (t, unused, l, last_of_lem list parts.0, ← clear_tail rows (decode list) (omega arith)) (as_clear list rows (rw g at formed))
+      rw (← side, t, unused, l, last_of_lem list parts.0, ← clear_tail rows (decode list) (omega arith)) (as_clear list rows (rw g at formed))

@@ -1,7 +1,5 @@
 -- `check` meets its contract, an exit at a time: the number of words, the form and the number of groups, the last group. Assumes nothing.
-use Rattle.std.proofs.Common.{◌≡◌, Bool, cond, sym, ap, ◌∙◌, arith}
-use Rattle.list_check.specs.Inner.{check_of}
-use Rattle.list_check.specs.declared.check.Checked.TheVariants.{Whole, Bad}
+use Rattle.std.proofs.Common.{sym, ◌∙◌, arith}
 use Rattle.list_check.proofs.check.Ends.{too_long, ends}
 use Rattle.list_check.proofs.check.Verdict.{not_formed}
 use Rattle.list_check.proofs.check.check.Goals as goal
@@ -32,22 +30,10 @@ tail_clear-requires c = omega (arith, c.groups_for-groups.ensures)
 
 pub returns-then-not-tail_clear : goal.returns-then-not-tail_clear
 returns-then-not-tail_clear c =
-    let told : cond c.tail_clear.result Whole Bad ≡ check_of c.args.list.now c.args.length =
-    let a = c.args in
-    let keeps = c.keeps_form in
-    let groups = c.groups_for-groups in
-    let last = c.last_group in
-    ends a.list.now a.length groups.result groups.ensures (sym keeps.ensures ∙ c.if-not-keeps_form.false)
-    last.result last.ensures c.tail_clear.result c.tail_clear.ensures in
-    ap (λ (t : Bool). cond t Whole Bad) (sym c.if-not-tail_clear.true) ∙ told
+    ends c.args.list.now c.args.length c.groups_for-groups.ensures (sym c.keeps_form.ensures ∙ c.if-not-keeps_form.false)
+    c.last_group.ensures c.tail_clear.ensures c.if-not-tail_clear.true
 
 pub returns : goal.returns
 returns c =
-    let told : cond c.tail_clear.result Whole Bad ≡ check_of c.args.list.now c.args.length =
-    let a = c.args in
-    let keeps = c.keeps_form in
-    let groups = c.groups_for-groups in
-    let last = c.last_group in
-    ends a.list.now a.length groups.result groups.ensures (sym keeps.ensures ∙ c.if-not-keeps_form.false)
-    last.result last.ensures c.tail_clear.result c.tail_clear.ensures in
-    ap (λ (t : Bool). cond t Whole Bad) (sym c.if-not-tail_clear.false) ∙ told
+    ends c.args.list.now c.args.length c.groups_for-groups.ensures (sym c.keeps_form.ensures ∙ c.if-not-keeps_form.false)
+    c.last_group.ensures c.tail_clear.ensures c.if-not-tail_clear.false
