@@ -1,7 +1,5 @@
 -- `flip_for` meets its contract: nothing where the whole check finds a fault, else a turn, after a merge where one is due. Assumes nothing.
-use mathlib.Core.Path.{◌≡◌, refl, ◌∙◌, sym}
-use Rattle.blocks.specs.Inner.{whole_of}
-use Rattle.blocks.specs.declared.whole.Lists.TheVariants.{Intact}
+use mathlib.Core.Path.{refl, ◌∙◌, sym}
 use Rattle.blocks.proofs.whole.Verdict.{faulty_whole, intact-whole, intact-ones}
 use Rattle.block_change.specs.Inner.{flip_for}
 use Rattle.block_change.proofs.change.flip_for.Goals as goal
@@ -14,13 +12,13 @@ returns-in_default c =
 
 pub merge_due-requires : goal.merge_due-requires
 merge_due-requires c =
-    let finds : let a = c.args in Intact c.in-Intact.ones ≡ whole_of a.sizes a.block.now = sym c.in-Intact.is ∙ c.check_lists.ensures in
     let a = c.args in
+    let finds = sym c.in-Intact.is ∙ c.check_lists.ensures in
     (c.requires.0, c.requires.1, intact-whole a.sizes a.block.now _ finds, c.requires.2, intact-ones a.sizes a.block.now _ finds)
 
 pub returns : goal.returns
 unfolding flip_for
 returns c =
-    let finds : let a = c.args in Intact c.in-Intact.ones ≡ whole_of a.sizes a.block.now = sym c.in-Intact.is ∙ c.check_lists.ensures in
     let a = c.args in
+    let finds = sym c.in-Intact.is ∙ c.check_lists.ensures in
     rw (intact-whole a.sizes a.block.now _ finds, c.merge_due.ensures) refl

@@ -1,7 +1,6 @@
 -- `unpack` meets its contract, an exit at a time. Assumes nothing.
 use mathlib.Core.Path.{◌∙◌, sym}
 use lib.Seq.{length-take-le}
-use Rattle.packs.proofs.Calls.{CanUnpack}
 use Rattle.packs.proofs.unpacking.Exits.{full, small, bad_list, passes, has_rows, done}
 use Rattle.packs.proofs.unpacking.unpack.Goals as goal
 
@@ -28,19 +27,15 @@ slice_bounds-unpack_into-end-2 c =
 
 pub unpack_into-requires : goal.unpack_into-requires
 unpack_into-requires c =
-    let can : let a = c.args in CanUnpack a.list.now a.length a.out.now =
     let a = c.args in
-    passes a.list.now a.length a.out.now c.if-length-gt-ROW_LIMIT.false c.if-out-length.false
-    (sym c.in-Whole.is ∙ c.check.ensures) in
-    let a = c.args in
+    let checked = sym c.in-Whole.is ∙ c.check.ensures in
+    let can = passes a.list.now a.length a.out.now c.if-length-gt-ROW_LIMIT.false c.if-out-length.false checked in
     has_rows a.list.now a.length a.out.now can
 
 pub returns : goal.returns
 returns c =
-    let can : let a = c.args in CanUnpack a.list.now a.length a.out.now =
     let a = c.args in
-    passes a.list.now a.length a.out.now c.if-length-gt-ROW_LIMIT.false c.if-out-length.false
-    (sym c.in-Whole.is ∙ c.check.ensures) in
-    let a = c.args in
+    let checked = sym c.in-Whole.is ∙ c.check.ensures in
+    let can = passes a.list.now a.length a.out.now c.if-length-gt-ROW_LIMIT.false c.if-out-length.false checked in
     let rows = c.unpack_into in
     done a.list.now a.length a.out.now can rows.new.out rows.ensures
