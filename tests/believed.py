@@ -18,7 +18,7 @@ from pathlib import Path
 CALLS = {"packs": "pack unpack".split(), "index": "load query value insert update delete merge dump audit".split()}
 THEOREMS = ["crates/history/specs/%s.antt" % name for name in ("History", "Promises", "Corollaries")]
 # As many lines as were reached last, so that a definition more is seen. The aim is 750.
-LIMIT = 859
+LIMIT = 868
 # Files and folders that are not reached and yet serve no inner contract.
 APART = {
     "crates/history/specs/Cases.antt": "the table of cases, which the number leaves out",

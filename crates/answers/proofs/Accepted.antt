@@ -1,4 +1,5 @@
 -- Calls that are not refused: what an outcome of number 0 says of its checks, and what it then is. Assumes nothing.
+use Rattle.std.specs.Prelude.{Result, Ok, Err}
 use mathlib.Core.Path.{◌≡◌, refl}
 use mathlib.Core.Bool.{true, false}
 use mathlib.Core.List.{List, [], ◌∷◌}
@@ -6,7 +7,6 @@ use Prim.Native.Nat.{ℕ}
 use native.Mathlib.Omega.{arith}
 use Rattle.answers.specs.Numbers.{number_of}
 use Rattle.answers.specs.Outcome.{Check, ◌when◌, Outcome, outcome}
-use Rattle.answers.specs.declared.Answer.TheVariants.{Done, Refused}
 use Rattle.answers.specs.declared.Refusal.{Refusal}
 use Rattle.answers.proofs.OneToOne.{one_to_one}
 
@@ -22,7 +22,7 @@ Passes (refusal when test ∷ checks) = (test ≡ false) × Passes checks
 -- the number of a refusal is never 0
 pub no_zero : (refusal : Refusal) → number_of refusal ≡ 0 → ⊥
 no_zero refusal e =
-    let same : Refused refusal ≡ Done 0 = one_to_one (Refused refusal) (Done 0) (rw e refl) in
+    let same : ◌≡◌ {A = Result ℕ Refusal} (Err refusal) (Ok 0) = one_to_one (Err refusal) (Ok 0) (rw e refl) in
     let z : ◌≡◌ {A = ℕ} 0 1 = cc in
     omega arith
 

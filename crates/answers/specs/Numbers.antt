@@ -1,9 +1,7 @@
 -- Document 01, "Numbers a caller can get back": the table's numbers under its names, and the number and count of each answer.
-use Rattle.std.specs.Prelude.{ℕ}
+use Rattle.std.specs.Prelude.{ℕ, Result, Ok, Err}
 use Rattle.answers.specs.declared.Refusal.{Refusal}
 use Rattle.answers.specs.declared.Refusal.TheVariants.{BadHeader, Small, BadValue, NoRow, Full, Damaged, Gone, OutSmall, BadList, BadFrame}
-use Rattle.answers.specs.declared.Answer.{Answer}
-use Rattle.answers.specs.declared.Answer.TheVariants.{Done, Refused}
 
 -- the number of each reason
 abbrev pub number_of : Refusal → ℕ
@@ -24,6 +22,6 @@ pub record Paper : Type 0 where
   pub count : ℕ
 
 -- the paper's number and count of each answer; 0 is OK
-abbrev pub paper : Answer → Paper
-paper (Done count) = record { number = 0; count = count }
-paper (Refused refusal) = record { number = number_of refusal; count = 0 }
+abbrev pub paper : Result ℕ Refusal → Paper
+paper (Ok count) = record { number = 0; count = count }
+paper (Err refusal) = record { number = number_of refusal; count = 0 }

@@ -1,8 +1,7 @@
 -- Document 01 on refusals and outputs: the lowest number that applies is given; a refusal leaves the output as it was; output past the result stays.
-use Rattle.std.specs.Prelude.{◌≡◌, Bool, true, false, List, [], ◌∷◌, ◌++◌, ℕ, length, drop}
+use Rattle.std.specs.Prelude.{◌≡◌, Bool, true, false, List, [], ◌∷◌, ◌++◌, ℕ, Result, length, drop}
 use Rattle.answers.specs.Numbers.{Paper, number_of, paper}
 use Rattle.answers.specs.declared.Refusal.{Refusal}
-use Rattle.answers.specs.declared.Answer.{Answer}
 
 infix 70 ◌when◌
 -- a reason to refuse, and whether it applies
@@ -21,6 +20,6 @@ outcome ((refusal when true) ∷ checks) result out = record { answer = record {
 outcome ((refusal when false) ∷ checks) result out = outcome checks result out
 
 -- an answer and an output are those of an outcome
-pub record Gives (o : Outcome) (answer : Answer) (out : List ℕ) : Type 0 where
+pub record Gives (o : Outcome) (answer : Result ℕ Refusal) (out : List ℕ) : Type 0 where
   pub answers : paper answer ≡ o.answer
   pub leaves : out ≡ o.output

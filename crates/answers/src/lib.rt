@@ -6,7 +6,7 @@ ghost use Rattle.std.specs.Prelude.{◌≡◌};
 ghost use Rattle.answers.specs.Numbers.{number_of};
 
 // Why a call refused, in the order of document 01's numbers 1 to 10.
-#[derive(Clone, Copy)]
+#[derive(Clone, Copy, Debug, PartialEq, Eq)]
 pub enum Refusal {
     BadHeader,
     Small,
@@ -20,27 +20,25 @@ pub enum Refusal {
     BadFrame,
 }
 
-// What a call answers: done, with the words or bytes written or the row given; or refused.
-#[derive(Clone, Copy)]
-pub enum Answer {
-    Done(usize),
-    Refused(Refusal),
-}
+// What a call answers: the words or bytes written or the row given, where it is done; or its refusal.
+pub type Answer = Result<usize, Refusal>;
 
 // Document 01's number of a refusal.
-pub fn number(refusal: Refusal) -> u32
-    ensures { result ≡ number_of refusal }
-{
-    match refusal {
-        Refusal::BadHeader => 1,
-        Refusal::Small => 2,
-        Refusal::BadValue => 3,
-        Refusal::NoRow => 4,
-        Refusal::Full => 5,
-        Refusal::Damaged => 6,
-        Refusal::Gone => 7,
-        Refusal::OutSmall => 8,
-        Refusal::BadList => 9,
-        Refusal::BadFrame => 10,
+impl From<Refusal> for u32 {
+    ghost from_gives = { λ refusal number. number ≡ number_of refusal };
+
+    fn from(refusal: Refusal) -> u32 {
+        match refusal {
+            Refusal::BadHeader => 1,
+            Refusal::Small => 2,
+            Refusal::BadValue => 3,
+            Refusal::NoRow => 4,
+            Refusal::Full => 5,
+            Refusal::Damaged => 6,
+            Refusal::Gone => 7,
+            Refusal::OutSmall => 8,
+            Refusal::BadList => 9,
+            Refusal::BadFrame => 10,
+        }
     }
 }

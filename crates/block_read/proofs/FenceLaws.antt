@@ -52,13 +52,13 @@ module _ (list : List ℕ) (group : ℕ) where
 
   reached : (left place first : ℕ) → length list - place ≡ left → Stands list group (fence_of place first)
       → Reached (locate_from list (fence_of place first) group)
-  reached zero place first l s = rw (ends list place first group (omega arith)) (record { stands = s; covered = λ h. absurd (omega arith) })
+  reached zero place first l s = rw (ends list place place first group (omega arith)) (record { stands = s; covered = λ h. absurd (omega arith) })
   reached (suc left) place first l s =
       let inside : place < length list = omega arith in
       let next = first + span (run_at list place) in
       by_cases (dec_lt group next)
-      (λ near. rw (covers list place first group inside near) (record { stands = s; covered = λ _. near }))
-      (λ far. rw (passes list place first group inside (omega (arith, far)))
+      (λ near. rw (covers list place place first group inside near) (record { stands = s; covered = λ _. near }))
+      (λ far. rw (passes list place place first group inside (omega (arith, far)))
       (reached left (place + 1) next (omega arith)
       (record { within = omega arith; begins = omega (arith, length_upto list place inside); early = omega (arith, far) })))
 
@@ -111,13 +111,13 @@ located_later list fence group later h = go (length list - fence.place) fence.pl
   where
     go : (left place first : ℕ) → length list - place ≡ left
         → locate_from list (locate_from list (fence_of place first) group) later ≡ locate_from list (fence_of place first) later
-    go zero place first l = rw (ends list place first group (omega arith)) refl
+    go zero place first l = rw (ends list place place first group (omega arith)) refl
     go (suc left) place first l =
         let inside : place < length list = omega arith in
         let next = first + span (run_at list place) in
         by_cases (dec_lt group next)
-        (λ near. rw (covers list place first group inside near) refl)
-        (λ far. rw (passes list place first group inside (omega (arith, far)), passes list place first later inside (omega (arith, far)))
+        (λ near. rw (covers list place place first group inside near) refl)
+        (λ far. rw (passes list place place first group inside (omega (arith, far)), passes list place place first later inside (omega (arith, far)))
         (go left (place + 1) next (omega arith)))
 
 -- ---- fences

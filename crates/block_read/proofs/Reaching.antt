@@ -1,5 +1,6 @@
 -- When there is a reading: in whole lists each group is read within the budgets, from a word on that covers a group less than G before it.
 -- Assumes nothing.
+use Rattle.std.specs.Prelude.{Option}
 use mathlib.Core.Path.{◌≡◌, refl, ◌∙◌, ap, sym}
 use mathlib.Core.Bool.{true}
 use mathlib.Core.List.{List}
@@ -23,16 +24,15 @@ use Rattle.blocks.specs.Whole.{whole_lists}
 use Rattle.block_read.specs.declared.fence.Fence.{Fence}
 use Rattle.blocks.specs.declared.sizes.Sizes.{Sizes}
 use Rattle.block_read.specs.declared.read.Reading.{Reading}
-use Rattle.block_read.specs.declared.read.Reading.TheVariants.{Group}
 use Rattle.block_read.proofs.FenceLaws.{fence_leads}
-use Rattle.block_read.proofs.Readings.{first_at}
+use Rattle.block_read.proofs.Readings.{read_as, first_at}
 use Rattle.blocks.proofs.SizeLaws.{fence_before_lem, fence_near}
 use Rattle.blocks.proofs.WholeLists.{whole_parts, value_covers, update_covers}
 
 -- a reading of a group, with at most so many words opened
-pub record Reaches (reading : Reading) (bits most : ℕ) : Type 0 where
+pub record Reaches (reading : Option Reading) (bits most : ℕ) : Type 0 where
   pub opened : ℕ
-  pub reads : reading ≡ Group bits opened
+  pub reads : reading ≡ read_as bits opened
   pub few : opened ≤ most
 
 -- a walk that finds its word
@@ -42,7 +42,7 @@ walk-reads list place first group budget most right there =
     let covering = there.covering in
     record {
       opened = covering.opened;
-      reads = rw there.found (ap (λ (bits : ℕ). Group bits covering.opened) (found_from list place first group budget covering right there.found));
+      reads = rw there.found (ap (λ (bits : ℕ). read_as bits covering.opened) (found_from list place first group budget covering right there.found));
       few = (found (drop place list) first group budget covering there.found).paid;
     }
 

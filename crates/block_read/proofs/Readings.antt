@@ -1,5 +1,6 @@
 -- What a reading of V, of U and of V xor U says: of the words opened, and of the group that was read. Assumes nothing.
-use mathlib.Core.Path.{◌≡◌, refl, ◌∙◌, ap₂, sym}
+use Rattle.std.specs.Prelude.{Option, Some, None}
+use mathlib.Core.Path.{◌≡◌, refl, ◌∙◌, ap, ap₂, sym}
 use mathlib.Core.Bool.{Bool, true, false, cond, ◌&&◌}
 use mathlib.Core.List.{List}
 use Prim.Native.Nat.{ℕ, ◌+◌, ◌-◌, ◌<◌, ◌≤◌}
@@ -10,8 +11,6 @@ use Rattle.words.specs.Words.{run_of, group_in, decode}
 use Rattle.words.proofs.Round.{decode-groups}
 use Rattle.lists.specs.Combine.{exclusive, on_group}
 use Rattle.list_walk.specs.Walk.{walk_to}
-use Rattle.list_walk.specs.declared.walk.Walk.{Walk}
-use Rattle.list_walk.specs.declared.walk.Walk.TheVariants.{Covered, Damaged}
 use Rattle.lists.proofs.Combining.{get_or-combined}
 use Rattle.lists.proofs.Operations.{exclusive_bits, on_group-lt}
 use Rattle.lists.proofs.Covering.{length_rest}
@@ -22,7 +21,7 @@ use Rattle.block_read.specs.Read.{group_read, read_value, read_update, joined, r
 use Rattle.blocks.specs.declared.sizes.Sizes.{Sizes}
 use Rattle.block_read.specs.declared.fence.Fence.{Fence}
 use Rattle.block_read.specs.declared.read.Reading.{Reading}
-use Rattle.block_read.specs.declared.read.Reading.TheVariants.{Group, Broken}
+use Rattle.list_walk.specs.declared.walk.Covering.{Covering}
 
 -- ---- one list
 
@@ -40,16 +39,26 @@ pub record Says (list : List ℕ) (place first group budget bits opened : ℕ) :
   pub inside : first ≡ first_at list place → group < length (decode list)
   pub same : first ≡ first_at list place → bits ≡ get_or (decode list) group 0
 
-not_read : {bits opened : ℕ} → Broken ≡ Group bits opened → ⊥
+-- a group, and the words opened to find it
+abbrev pub read_as : ℕ → ℕ → Option Reading
+read_as group opened = Some (record { group = group; opened = opened })
+
+not_read : {bits opened : ℕ} → None ≡ read_as bits opened → ⊥
 not_read e = let same : ◌≡◌ {A = ℕ} 0 1 = cc in omega arith
 
+-- two readings that are equal have the same group, and as many words opened
+pub same_reading : {bits opened other more : ℕ} → read_as bits opened ≡ read_as other more → (bits ≡ other) × (opened ≡ more)
+same_reading {bits} {opened} {other} {more} e =
+    let same : ◌≡◌ {A = Reading} (record { group = bits; opened = opened }) (record { group = other; opened = more }) = cc in
+    (ap (λ (reading : Reading). reading.group) same, ap (λ (reading : Reading). reading.opened) same)
+
 module _ (list : List ℕ) (place first group budget bits opened : ℕ) where
-  walk_says : (walk : Walk) → walk_to (drop place list) first group budget ≡ walk → group_read walk ≡ Group bits opened
+  walk_says : (walk : Option Covering) → walk_to (drop place list) first group budget ≡ walk → group_read walk ≡ read_as bits opened
       → Says list place first group budget bits opened
-  walk_says Damaged w e = absurd (not_read e)
-  walk_says (Covered covering) w e =
-      let read : group_in (run_of covering.word) ≡ bits = cc in
-      let count : covering.opened ≡ opened = cc in
+  walk_says None w e = absurd (not_read e)
+  walk_says (Some covering) w e =
+      let read : group_in (run_of covering.word) ≡ bits = (same_reading e).0 in
+      let count : covering.opened ≡ opened = (same_reading e).1 in
       let there = found (drop place list) first group budget covering w in
       record {
         started = there.started;
@@ -62,14 +71,14 @@ module _ (list : List ℕ) (place first group budget bits opened : ℕ) where
       }
 
   -- a reading behind a test
-  test_says : (test : Bool) → cond test (group_read (walk_to (drop place list) first group budget)) Broken ≡ Group bits opened
+  test_says : (test : Bool) → cond test (group_read (walk_to (drop place list) first group budget)) None ≡ read_as bits opened
       → Says list place first group budget bits opened
   test_says true e = walk_says (walk_to (drop place list) first group budget) refl e
   test_says false e = absurd (not_read e)
 
 module _ (sizes : Sizes) (block : List ℕ) where
   -- THEOREM: what a reading of V says
-  pub value_says : (fence : Fence) (group bits opened : ℕ) → read_value sizes fence group block ≡ Group bits opened
+  pub value_says : (fence : Fence) (group bits opened : ℕ) → read_value sizes fence group block ≡ read_as bits opened
       → Says (value_list sizes block) fence.place fence.first group sizes.spacing bits opened
   unfolding read_value
   value_says fence group bits opened e =
@@ -77,7 +86,7 @@ module _ (sizes : Sizes) (block : List ℕ) where
       (leb (value_length block) (value_room sizes) && ltb fence.place (value_length block)) e
 
   -- THEOREM: what a reading of U says, from its first word on
-  pub update_says : (group bits opened : ℕ) → read_update sizes group block ≡ Group bits opened
+  pub update_says : (group bits opened : ℕ) → read_update sizes group block ≡ read_as bits opened
       → Says (update_list sizes block) 0 0 group (update_room sizes) bits opened
   unfolding read_update
   update_says group bits opened e =
@@ -94,24 +103,24 @@ module _ (sizes : Sizes) (block : List ℕ) where
         → bits ≡ get_or (current sizes block) group 0
 
   -- THEOREM: what a reading of V xor U says
-  pub group_says : (fence : Fence) (group bits opened : ℕ) → read_group sizes fence group block ≡ Group bits opened
+  pub group_says : (fence : Fence) (group bits opened : ℕ) → read_group sizes fence group block ≡ read_as bits opened
       → GroupSays fence group bits opened
   unfolding read_group current
   group_says fence group bits opened e = go (read_value sizes fence group block) (read_update sizes group block) refl refl e
     where
-      go : (value update : Reading) → read_value sizes fence group block ≡ value → read_update sizes group block ≡ update
-          → joined value update ≡ Group bits opened → GroupSays fence group bits opened
-      go Broken update v u e = absurd (not_read e)
-      go (Group left count) Broken v u e = absurd (not_read e)
-      go (Group left count) (Group right more) v u e =
-          let value = value_says fence group left count v in
-          let update = update_says group right more u in
-          let both : count + more ≡ opened = cc in
-          let bits_are : on_group exclusive left right ≡ bits = cc in
+      go : (value update : Option Reading) → read_value sizes fence group block ≡ value → read_update sizes group block ≡ update
+          → joined value update ≡ read_as bits opened → GroupSays fence group bits opened
+      go None update v u e = absurd (not_read e)
+      go (Some left) None v u e = absurd (not_read e)
+      go (Some left) (Some right) v u e =
+          let value = value_says fence group left.group left.opened v in
+          let update = update_says group right.group right.opened u in
+          let both : left.opened + right.opened ≡ opened = (same_reading e).1 in
+          let bits_are : on_group exclusive left.group right.group ≡ bits = (same_reading e).0 in
           record {
             some = omega (arith, value.some);
             few = omega (arith, value.few, update.few);
-            small = omega (arith, bits_are, on_group-lt exclusive exclusive_bits left right);
+            small = omega (arith, bits_are, on_group-lt exclusive exclusive_bits left.group right.group);
             same = λ begins long.
                 sym bits_are
                 ∙ ap₂ (on_group exclusive) (value.same begins) (update.same refl)

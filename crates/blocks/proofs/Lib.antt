@@ -1,5 +1,6 @@
 pub mod Blocks
 pub mod EmptyUpdates
+pub mod Opened
 pub mod Parts
 pub mod Rooms
 pub mod SizeLaws

@@ -1,12 +1,10 @@
 -- Definitions that the contracts of inner functions alone cite.
-use Rattle.std.specs.Prelude.{cond, List, ◌++◌, ◌∷◌, ◌≡◌, ℕ, ◌≤◌}
+use Rattle.std.specs.Prelude.{Option, Some, None, cond, List, ◌++◌, ◌∷◌, ◌≡◌, ℕ, ◌≤◌}
 use Rattle.groups.specs.Rows.{row_limit, groups_for}
 use Rattle.blocks.specs.Block.{update_length, update_words}
 use Rattle.blocks.specs.Whole.{whole_lists, update_ones}
-use Rattle.blocks.specs.declared.sizes.Sizes.{Sizes}
-use Rattle.blocks.specs.Sizes.{value_room, update_room, block_size, fence_count}
-use Rattle.blocks.specs.declared.whole.Lists.{Lists}
-use Rattle.blocks.specs.declared.whole.Lists.TheVariants.{Intact, Faulty}
+use Rattle.blocks.specs.Sizes.{Sizes, value_room, update_room, block_size, fence_count}
+use Rattle.blocks.specs.declared.sizes.Sizes.TheInside.{Inside}
 
 -- a block with another length and other words for V
 unfoldable pub with_value : Sizes → ℕ → List ℕ → List ℕ → List ℕ
@@ -26,6 +24,33 @@ pub record Limits (sizes : Sizes) : Type 0 where
   pub block_is : sizes.block ≡ block_size sizes
   pub fences_are : sizes.fences ≡ fence_count sizes
 
--- what the check finds: whole lists, with the ones of U, or not
-unfoldable pub whole_of : Sizes → List ℕ → Lists
-whole_of sizes block = cond (whole_lists sizes block) (Intact (update_ones sizes block)) Faulty
+-- what the check finds: the ones of U, where both lists are whole
+unfoldable pub whole_of : Sizes → List ℕ → Option ℕ
+whole_of sizes block = cond (whole_lists sizes block) (Some (update_ones sizes block)) None
+
+-- what stands in the code's fields, and back
+abbrev pub numbers_of : Inside → Sizes
+numbers_of a =
+    record {
+      rows = a.rows;
+      groups = a.groups;
+      value_room = a.value_room;
+      update_room = a.update_room;
+      threshold = a.threshold;
+      spacing = a.spacing;
+      block = a.block;
+      fences = a.fences;
+    }
+
+abbrev pub fields_of : Sizes → Inside
+fields_of a =
+    record {
+      rows = a.rows;
+      groups = a.groups;
+      value_room = a.value_room;
+      update_room = a.update_room;
+      threshold = a.threshold;
+      spacing = a.spacing;
+      block = a.block;
+      fences = a.fences;
+    }

@@ -1,7 +1,17 @@
 -- Document 01, "Memory of an index": the sizes that the blocks of all values share.
 use Rattle.std.specs.Prelude.{ℕ, ◌+◌, ◌-◌, ◌*◌, ◌/◌}
 use Rattle.groups.specs.Rows.{groups_for}
-use Rattle.blocks.specs.declared.sizes.Sizes.{Sizes}
+
+-- the numbers of an index, whatever its header
+pub record Sizes : Type 0 where
+  pub rows : ℕ
+  pub groups : ℕ
+  pub value_room : ℕ
+  pub update_room : ℕ
+  pub threshold : ℕ
+  pub spacing : ℕ
+  pub block : ℕ
+  pub fences : ℕ
 
 -- 2T + 1: the words of an update list's room
 abbrev pub update_room_for : ℕ → ℕ

@@ -1,7 +1,6 @@
 // Where the parts of a block lie: V's length, U's length, V's room and U's room, one after the other.
 ghost use Rattle.std.specs.Prelude.{◌≡◌, ◌≤◌, length, take, drop};
 ghost use Rattle.blocks.specs.Sizes.{value_room, update_room, block_size};
-ghost use Rattle.blocks.specs.Inner.{Limits};
 ghost use Rattle.blocks.specs.Block.{value_length, update_length, value_words, update_words, value_list, update_list};
 
 use crate::sizes::Sizes;
@@ -27,7 +26,7 @@ pub fn update_length(block: &[u32]) -> usize
 
 // V, whose length fits its room.
 pub fn value_list(block: &[u32], sizes: Sizes) -> &[u32]
-    requires { Limits sizes × (length block.now ≡ block_size sizes) × (value_length block.now ≤ value_room sizes) }
+    requires { (length block.now ≡ block_size sizes) × (value_length block.now ≤ value_room sizes) }
     ensures { result.now ≡ value_list sizes block.now }
 {
     let end = LENGTHS + block[0] as usize;
@@ -36,7 +35,7 @@ pub fn value_list(block: &[u32], sizes: Sizes) -> &[u32]
 
 // U, whose length fits its room.
 pub fn update_list(block: &[u32], sizes: Sizes) -> &[u32]
-    requires { Limits sizes × (length block.now ≡ block_size sizes) × (update_length block.now ≤ update_room sizes) }
+    requires { (length block.now ≡ block_size sizes) × (update_length block.now ≤ update_room sizes) }
     ensures { result.now ≡ update_list sizes block.now }
 {
     let from = LENGTHS + sizes.value_room;
@@ -46,7 +45,7 @@ pub fn update_list(block: &[u32], sizes: Sizes) -> &[u32]
 
 // The first words of V's room, whatever they are.
 pub fn value_front(block: &[u32], sizes: Sizes, count: usize) -> &[u32]
-    requires { Limits sizes × (length block.now ≡ block_size sizes) × (count ≤ value_room sizes) }
+    requires { (length block.now ≡ block_size sizes) × (count ≤ value_room sizes) }
     ensures { result.now ≡ take count (value_words sizes block.now) }
 {
     let end = LENGTHS + count;
@@ -55,7 +54,7 @@ pub fn value_front(block: &[u32], sizes: Sizes, count: usize) -> &[u32]
 
 // The words of V's room that V leaves unused.
 pub fn value_unused(block: &[u32], sizes: Sizes) -> &[u32]
-    requires { Limits sizes × (length block.now ≡ block_size sizes) × (value_length block.now ≤ value_room sizes) }
+    requires { (length block.now ≡ block_size sizes) × (value_length block.now ≤ value_room sizes) }
     ensures { result.now ≡ drop (value_length block.now) (value_words sizes block.now) }
 {
     let from = LENGTHS + block[0] as usize;
@@ -65,7 +64,7 @@ pub fn value_unused(block: &[u32], sizes: Sizes) -> &[u32]
 
 // The words of U's room that U leaves unused.
 pub fn update_unused(block: &[u32], sizes: Sizes) -> &[u32]
-    requires { Limits sizes × (length block.now ≡ block_size sizes) × (update_length block.now ≤ update_room sizes) }
+    requires { (length block.now ≡ block_size sizes) × (update_length block.now ≤ update_room sizes) }
     ensures { result.now ≡ drop (update_length block.now) (update_words sizes block.now) }
 {
     let room = LENGTHS + sizes.value_room;

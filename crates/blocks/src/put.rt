@@ -1,7 +1,7 @@
 // Writes one list of a block: its length and all words of its room, the unused ones with it.
 ghost use Rattle.std.specs.Prelude.{◌≡◌, ◌≤◌, length, take};
 ghost use Rattle.blocks.specs.Sizes.{value_room, update_room, block_size};
-ghost use Rattle.blocks.specs.Inner.{Limits, with_value};
+ghost use Rattle.blocks.specs.Inner.{with_value};
 ghost use Rattle.blocks.specs.Block.{with_update, padded, zero_list};
 
 use crate::layout::LENGTHS;
@@ -14,7 +14,7 @@ pub const UPDATE_LIMIT: usize = 511;
 
 // V becomes the first words of `room`, as many as V has room for, of which `count` are the list.
 pub fn put_value(block: &mut [u32], sizes: Sizes, count: usize, room: &[u32])
-    requires { Limits sizes × (length block.old ≡ block_size sizes) × (count ≤ 4096) × (value_room sizes ≤ length room.now) }
+    requires { (length block.old ≡ block_size sizes) × (count ≤ 4096) × (value_room sizes ≤ length room.now) }
     ensures { block.new ≡ with_value sizes count (take (value_room sizes) room.now) block.old }
 {
     let size = sizes.value_room;
@@ -25,7 +25,7 @@ pub fn put_value(block: &mut [u32], sizes: Sizes, count: usize, room: &[u32])
 
 // U becomes the first words of `room`, as many as U has room for, of which `count` are the list.
 pub fn put_update(block: &mut [u32], sizes: Sizes, count: usize, room: &[u32])
-    requires { Limits sizes × (length block.old ≡ block_size sizes) × (count ≤ 511) × (update_room sizes ≤ length room.now) }
+    requires { (length block.old ≡ block_size sizes) × (count ≤ 511) × (update_room sizes ≤ length room.now) }
     ensures { block.new ≡ with_update sizes count (take (update_room sizes) room.now) block.old }
 {
     let size = sizes.update_room;
@@ -37,7 +37,7 @@ pub fn put_update(block: &mut [u32], sizes: Sizes, count: usize, room: &[u32])
 
 // U becomes the all-zero list.
 pub fn clear_update(block: &mut [u32], sizes: Sizes)
-    requires { Limits sizes × (length block.old ≡ block_size sizes) }
+    requires { length block.old ≡ block_size sizes }
     ensures { block.new ≡ with_update sizes 1 (padded (update_room sizes) (zero_list sizes)) block.old }
 {
     let mut room = [0u32; UPDATE_LIMIT];

@@ -1,4 +1,5 @@
 -- What the entry of a call on a value whose lists are to be whole says where it is ready. Assumes nothing.
+use Rattle.std.specs.Prelude.{Ok}
 use mathlib.Core.Path.{◌≡◌}
 use mathlib.Core.Bool.{true, not}
 use mathlib.Core.List.{List, [], ◌∷◌}
@@ -11,7 +12,6 @@ use Rattle.blocks.specs.declared.sizes.Sizes.{Sizes}
 use Rattle.memory.specs.Entry.{bad_value}
 use Rattle.memory.specs.Inner.{Planned}
 use Rattle.memory.specs.Memory.{sizes_of}
-use Rattle.memory.specs.declared.entry.Entry.TheVariants.{Ready}
 use Rattle.memory.specs.declared.header.Header.{Header}
 use Rattle.memory.proofs.Deciding.{ready_enters}
 use Rattle.change_value.specs.Change.{whole}
@@ -24,7 +24,7 @@ pub record EntersWhole (words : List ℕ) (fences : ℕ) (header : Header) (valu
   pub are_whole : whole sizes words value ≡ true
 
 -- THEOREM: what it says that the entry is ready
-pub ready_whole : (words : List ℕ) (fences : ℕ) (header : Header) (value : ℕ) (sizes : Sizes) → Ready sizes ≡ entered_whole words fences header value
+pub ready_whole : (words : List ℕ) (fences : ℕ) (header : Header) (value : ℕ) (sizes : Sizes) → Ok sizes ≡ entered_whole words fences header value
     → EntersWhole words fences header value sizes
 unfolding entered_whole
 ready_whole words fences header value sizes ready =

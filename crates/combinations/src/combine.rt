@@ -6,9 +6,9 @@ ghost use Rattle.words.specs.Words.{decode, encode};
 ghost use Rattle.lists.specs.Combine.{exclusive, combined};
 ghost use Rattle.lists.specs.Inner.{Formed, Covers};
 
-use crate::copying::{copy_words, next_copy};
+use crate::copying::next_copy;
 use crate::span::{Span, common, moved, opened, shortened};
-use words::writer::{Pending, finish, next_step, store};
+use words::writer::ListWriter;
 
 // Writes the canonical list of the XOR of two lists to a place that is long enough; answers its
 // length. Both lists have `groups` groups. Where the right list has zeros, words of the left one, which
@@ -27,23 +27,20 @@ pub fn xor_into(left: &[u32], right: &[u32], groups: u32, out: &mut [u32]) -> us
     };
     let mut from_left = start;
     let mut from_right = start;
-    let mut pending = Pending { bit: 0, count: 0 };
-    let mut length: usize = 0;
+    let mut list = ListWriter::new(out);
     let mut done: u32 = 0;
     while done < groups {
         let ahead = opened(right, from_right);
-        let copying = next_copy(left, from_left, ahead, pending);
-        let ended = finish(out, length, copying.ended);
-        let copied = copy_words(left, from_left.next, copying.words, out, ended);
+        let copying = next_copy(left, from_left, ahead, list.pending);
+        let words = &left[from_left.next..from_left.next + copying.words];
+        list.splice(copying.ended, words, copying.pending);
         let x = opened(left, moved(from_left, copying.words));
         let y = shortened(ahead, copying.groups);
         let count = common(x, y);
-        let step = next_step(copying.pending, x.group ^ y.group, count);
-        length = store(out, copied, step);
-        pending = step.pending;
+        list.push(x.group ^ y.group, count);
         from_left = shortened(x, count);
         from_right = shortened(y, count);
         done += copying.groups + count;
     }
-    finish(out, length, pending)
+    list.finish()
 }

@@ -1,13 +1,12 @@
 // Words of one list that are copied as they are, where the other list has zeros.
-ghost use Rattle.std.specs.Prelude.{◌≡◌, ◌+◌, ◌<◌, ◌≤◌, length, take, drop};
-ghost use Rattle.std.proofs.lemmas.List.Edits.{sets};
+ghost use Rattle.std.specs.Prelude.{◌≡◌, ◌<◌, ◌≤◌, length};
 ghost use Rattle.words.specs.Words.{decode};
 ghost use Rattle.lists.specs.Inner.{Formed};
 ghost use Rattle.combinations.specs.Inner.{remaining, goes_on, Reaches, not_copied, Copies};
 
 use crate::span::Span;
 use words::word::{ALL_ONES, group_in, span_of};
-use words::writer::{Pending, copy};
+use words::writer::Pending;
 
 // How many words are looked at together.
 const STRIDE: usize = 16;
@@ -46,10 +45,8 @@ fn covered_by(words: &[u32]) -> u32
     ensures { result ≡ length (decode words.now) }
 {
     let mut groups: u32 = 0;
-    let mut i: usize = 0;
-    while i < words.len() {
-        groups += span_of(words[i]);
-        i += 1;
+    for word in words {
+        groups += span_of(*word);
     }
     groups
 }
@@ -59,24 +56,21 @@ fn reach_by_strides(list: &[u32], zeros: u32) -> Reach
     requires { (0 < zeros) × (zeros ≤ length (decode list.now)) × (length (decode list.now) ≤ 4096) }
     ensures { Reaches list.now zeros result }
 {
-    let mut words: usize = 0;
-    let mut groups: u32 = 0;
-    while words + STRIDE < list.len() {
-        let next = words + STRIDE;
-        let end = groups + covered_by(&list[words..next]);
+    let mut reach = Reach {
+        words: 0,
+        groups: 0,
+    };
+    for stride in list.chunks_exact(STRIDE) {
+        let end = reach.groups + covered_by(stride);
         if zeros <= end {
-            return Reach {
-                words: words,
-                groups: groups,
-            };
+            break;
         }
-        words = next;
-        groups = end;
+        reach = Reach {
+            words: reach.words + STRIDE,
+            groups: end,
+        };
     }
-    Reach {
-        words: words,
-        groups: groups,
-    }
+    reach
 }
 
 // The first words of a list that end before the last of its first `zeros` groups.
@@ -84,19 +78,18 @@ fn reach_of(list: &[u32], zeros: u32) -> Reach
     requires { (0 < zeros) × (zeros ≤ length (decode list.now)) × (length (decode list.now) ≤ 4096) }
     ensures { Reaches list.now zeros result }
 {
-    let strides = reach_by_strides(list, zeros);
-    let mut words = strides.words;
-    let mut groups = strides.groups;
-    let mut end = groups + span_of(list[words]);
-    while end < zeros {
-        words += 1;
-        groups = end;
-        end += span_of(list[words]);
+    let mut reach = reach_by_strides(list, zeros);
+    for word in &list[reach.words..] {
+        let groups = reach.groups + span_of(*word);
+        if zeros <= groups {
+            break;
+        }
+        reach = Reach {
+            words: reach.words + 1,
+            groups,
+        };
     }
-    Reach {
-        words: words,
-        groups: groups,
-    }
+    reach
 }
 
 // No word is copied.
@@ -107,7 +100,7 @@ fn no_copy(pending: Pending) -> Copying
         ended: Pending { bit: 0, count: 0 },
         words: 0,
         groups: 0,
-        pending: pending,
+        pending,
     }
 }
 
@@ -136,15 +129,4 @@ pub fn next_copy(list: &[u32], from: Span, other: Span, pending: Pending) -> Cop
         groups: reach.groups,
         pending: Pending { bit: 0, count: 0 },
     }
-}
-
-// Copies words of a list to a place of the output; answers the place after them.
-pub fn copy_words(list: &[u32], from: usize, words: usize, out: &mut [u32], at: usize) -> usize
-    requires { (from + words ≤ length list.now) × (at + words ≤ length out.old) }
-    ensures { (result ≡ at + words) × (out.new ≡ sets out.old at (take words (drop from list.now))) }
-{
-    let from_end = from + words;
-    let end = at + words;
-    copy(&list[from..from_end], &mut out[at..end]);
-    end
 }

@@ -4,7 +4,6 @@ ghost use Rattle.words.specs.Inner.{Alone};
 ghost use Rattle.lists.specs.Inner.{Filled};
 ghost use Rattle.combinations.specs.Inner.{remaining, shorter, past, Opened};
 
-use groups::rows::smaller;
 use words::word::{group_in, span_of};
 
 // What is left of a list: `left` times one group, then the words from place `next` on.
@@ -37,7 +36,7 @@ pub fn opened(list: &[u32], span: Span) -> Span
 pub fn common(x: Span, y: Span) -> u32
     ensures { result ≡ min x.left y.left }
 {
-    smaller(x.left as usize, y.left as usize) as u32
+    x.left.min(y.left)
 }
 
 // The span without its first groups.
@@ -46,9 +45,8 @@ pub fn shortened(span: Span, count: u32) -> Span
     ensures { result ≡ shorter span count }
 {
     Span {
-        group: span.group,
         left: span.left - count,
-        next: span.next,
+        ..span
     }
 }
 
@@ -58,8 +56,7 @@ pub fn moved(span: Span, words: usize) -> Span
     ensures { result ≡ past span words }
 {
     Span {
-        group: span.group,
-        left: span.left,
         next: span.next + words,
+        ..span
     }
 }

@@ -2,28 +2,28 @@
 // its commands. Each line is answered by one line.
 #![tactic(auto)]
 
-mod lending;
+mod calls;
 mod serve;
 
 use block_read::fence::Fence;
-use desk_orders::lent::{FENCES, WORDS};
+use desk_orders::state::{Desk, FENCES, LINE, Lent, ROOM, WORDS};
+use lines::input::Input;
+use lines::output::Output;
+use memory::header::no_header;
 use serve::serve;
-use std::io::{self, Stdin, Stdout};
+use std::io;
 
-// The console's fences.
-fn with_fences(
-    keyboard: Stdin,
-    screen: Stdout,
-    words: &mut [u32],
-    input: &mut [u8],
-) -> io::Result<()> {
-    let mut fences = [Fence { place: 0, first: 0 }; FENCES];
-    serve(keyboard, screen, words, &mut fences, input)
-}
-
-// The console's words, and its input: a line has up to 600,000 bytes, and a line end.
+// The console's memory is made where it stays: a function that gave it back would need the room twice.
 fn main(rt: HostRuntime) -> io::Result<()> {
-    let mut words = [0u32; WORDS];
-    let mut input = [0u8; 600001];
-    with_fences(rt.stdin(), rt.stdout(), &mut words, &mut input)
+    let mut input = Input::new(rt.stdin());
+    let mut out = Output::new(rt.stdout());
+    let mut desk = Desk {
+        words: [0; WORDS],
+        fences: [Fence { place: 0, first: 0 }; FENCES],
+        rows: [0; LINE],
+        list: [0; ROOM],
+        lent: Lent::all(),
+        header: no_header(),
+    };
+    serve(&mut input, &mut out, &mut desk)
 }

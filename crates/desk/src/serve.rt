@@ -1,91 +1,55 @@
 // The console: a line is read, and answered before the next is waited for.
-use crate::lending::{obey_change, obey_load, obey_question};
-use block_read::fence::Fence;
-use desk_orders::lent::{Lent, all_lent};
-use desk_orders::records::obey_records;
-use desk_orders::word_orders::obey_other;
-use lines::input::{Waiting, has_ended, look_on, nothing_waiting};
-use lines::orders::{Request, next_request};
-use std::io::{self, Stdin, Stdout};
+use crate::calls::{ask, make_change, make_load};
+use desk_orders::state::Desk;
+use lines::failure::Failure;
+use lines::input::{Input, Line};
+use lines::orders::{Order, is_silent, order_in};
+use lines::output::Output;
+use lines::replies::say_help;
+use std::io::{self, Write};
 
-// What the console keeps from one turn to the next.
-#[derive(Clone, Copy)]
-pub struct Console {
-    pub waiting: Waiting,
-    pub lent: Lent,
-    pub ended: bool,
-}
-
-fn begin() -> Console {
-    Console {
-        waiting: nothing_waiting(),
-        lent: all_lent(),
-        ended: false,
-    }
-}
-
-fn after_turn(waiting: Waiting, lent: Lent) -> Console {
-    Console {
-        waiting: waiting,
-        lent: lent,
-        ended: has_ended(waiting),
-    }
-}
-
-// Answers the line that was found, if one was.
-fn answer(
-    screen: Stdout,
-    words: &mut [u32],
-    fences: &mut [Fence],
-    input: &[u8],
-    waiting: Waiting,
-    lent: Lent,
-) -> io::Result<Lent> {
-    match next_request(input, waiting) {
-        Request::Loads(order) => obey_load(screen, words, fences, input, waiting, lent, order),
-        Request::Changes(order) => obey_change(screen, words, fences, lent, order),
-        Request::Asks(order) => {
-            obey_question(screen, words, fences, lent, order)?;
-            Ok(lent)
+// Obeys a line, and answers it where it is obeyed.
+fn obey(desk: &mut Desk, out: &mut Output, line: &[u8]) -> Result<(), Failure> {
+    match order_in(line).ok_or(Failure::NoCommand)? {
+        Order::Load(load) => make_load(desk, out, load)?,
+        Order::Change(change) => make_change(desk, out, change)?,
+        Order::Ask(question) => ask(desk, out, question)?,
+        Order::Set(setting) => {
+            desk.set(setting)?;
+            writeln!(out, "0")?;
         }
-        Request::Records(order) => {
-            obey_records(screen, fences, order)?;
-            Ok(lent)
-        }
-        Request::Other(order) => obey_other(screen, words, input, waiting, lent, order),
-        Request::Silent => Ok(lent),
+        Order::Peek { at, count } => desk.peek(out, at, count)?,
+        Order::PeekFence { at, count } => desk.peek_fences(out, at, count)?,
+        Order::Pack { digits } => desk.pack(out, digits)?,
+        Order::Unpack { length, words } => desk.unpack(out, length, words)?,
+        Order::Help => say_help(out)?,
     }
+    Ok(())
 }
 
-// One look at the input, and the answer to the line that it finds.
-fn take_turn(
-    keyboard: Stdin,
-    screen: Stdout,
-    words: &mut [u32],
-    fences: &mut [Fence],
-    input: &mut [u8],
-    console: Console,
-) -> io::Result<Console> {
-    let waiting = look_on(keyboard, input, console.waiting)?;
-    let lent = answer(screen, words, fences, input, waiting, console.lent)?;
-    Ok(after_turn(waiting, lent))
+// Answers a line. Only a failure of the input or the screen ends the console.
+fn answer(desk: &mut Desk, out: &mut Output, line: Line<'_>) -> io::Result<()> {
+    let obeyed = match line {
+        Line::TooLong => Err(Failure::NoCommand),
+        Line::Whole(line) if is_silent(line) => Ok(()),
+        Line::Whole(line) => obey(desk, out, line),
+    };
+    match obeyed {
+        Ok(()) => Ok(()),
+        Err(Failure::Io(error)) => Err(error),
+        Err(failure) => writeln!(out, "{failure}"),
+    }
 }
 
 // Reads and answers up to the end of the input. A proved loop has to end, and nothing says that the input
 // does: the turns are counted up to a number that no run reaches.
-pub fn serve(
-    keyboard: Stdin,
-    screen: Stdout,
-    words: &mut [u32],
-    fences: &mut [Fence],
-    input: &mut [u8],
-) -> io::Result<()> {
-    let mut console = begin();
+pub fn serve(input: &mut Input, out: &mut Output, desk: &mut Desk) -> io::Result<()> {
     for _ in 0..u64::MAX {
-        console = take_turn(keyboard, screen, words, fences, input, console)?;
-        if console.ended {
+        let Some(line) = input.next_line()? else {
             break;
-        }
+        };
+        answer(desk, out, line)?;
+        out.flush()?;
     }
     Ok(())
 }

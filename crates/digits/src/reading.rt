@@ -2,51 +2,31 @@
 ghost use Rattle.std.specs.Prelude.{◌≡◌, ◌+◌, ◌*◌, ◌<◌, ◌≤◌, length};
 ghost use Rattle.digits.specs.Digits.{digit_of, digit_value, are_digits, number_in};
 
-// What a byte counts for as a digit: 0 to 15, and 16 where it is none.
-pub fn digit_of(byte: u8) -> u8
+// What a byte counts for as a digit: 0 to 15, and none for any other byte.
+#[tactic(auto, unfolding(crate::specs::Digits::digit_of))]
+pub fn digit_of(byte: u8) -> Option<u8>
     ensures { result ≡ digit_of byte }
 {
-    if byte < b'0' {
-        return 16;
+    match byte {
+        b'0'..=b'9' => Some(byte - b'0'),
+        b'a'..=b'f' => Some(byte - b'a' + 10),
+        _ => None,
     }
-    if byte <= b'9' {
-        return byte - b'0';
-    }
-    if byte < b'a' {
-        return 16;
-    }
-    if byte <= b'f' {
-        return byte - 87;
-    }
-    16
 }
 
 // The number below 16 that a digit stands for; 0 for any other byte.
+#[tactic(auto, using(crate::proofs::Digits::digit_small))]
 pub fn digit_value(byte: u8) -> u8
-    ensures { result ≡ digit_value byte }
+    ensures { (result ≡ digit_value byte) × (result < 16) }
 {
-    digit_of(byte) % 16
+    digit_of(byte).unwrap_or(0)
 }
 
 // Whether all of some bytes are digits.
 pub fn all_digits(bytes: &[u8]) -> bool
     ensures { result ≡ are_digits bytes.now }
 {
-    let mut i: usize = 0;
-    while i < bytes.len() {
-        if 16 <= digit_of(bytes[i]) {
-            return false;
-        }
-        i += 1;
-    }
-    true
-}
-
-fn one_more_digit(number: u32, digit: u8) -> u32
-    requires { (number < 0x10000000) × (digit < 16) }
-    ensures { result ≡ number * 16 + digit }
-{
-    number * 16 + digit as u32
+    bytes.iter().all(|&byte| digit_of(byte).is_some())
 }
 
 // The number of at most 8 digits.
@@ -55,10 +35,8 @@ pub fn number_in(digits: &[u8]) -> u32
     ensures { result ≡ number_in digits.now }
 {
     let mut number: u32 = 0;
-    let mut i: usize = 0;
-    while i < digits.len() {
-        number = one_more_digit(number, digit_value(digits[i]));
-        i += 1;
+    for &digit in digits {
+        number = number * 16 + u32::from(digit_value(digit));
     }
     number
 }

@@ -10,7 +10,7 @@ fn hex_digit(number: u32) -> u8
     if number < 10 {
         b'0' + number as u8
     } else {
-        87 + number as u8
+        b'a' - 10 + number as u8
     }
 }
 
@@ -20,12 +20,9 @@ pub fn put_digits(out: &mut [u8], at: usize, number: u32, count: usize) -> usize
     requires { (count ≤ 8) × (at + count ≤ length out.old) }
     ensures { (result ≡ at + count) × (out.new ≡ sets out.old at (hex_digits count number)) }
 {
-    let mut left = count;
-    let mut next = at;
-    while 0 < left {
-        left -= 1;
-        out[next] = hex_digit((number >> (4 * left)) % 16);
-        next += 1;
+    for i in 0..count {
+        let left = count - 1 - i;
+        out[at + i] = hex_digit((number >> (4 * left)) % 16);
     }
-    next
+    at + count
 }

@@ -1,8 +1,7 @@
 -- Definitions that the contracts of inner functions alone cite: Dump's part for one value. Each row has a byte, 255 while no value has it; the rows
 -- that are 1 in V xor U get the value.
-use Rattle.std.specs.Prelude.{Bool, true, false, cond, ◌&&◌, ◌||◌, List, [], ◌∷◌, ℕ, suc, ◌-◌, ◌/◌, ◌%◌, ◌^◌, leb, ltb, eqb}
+use Rattle.std.specs.Prelude.{Option, Some, None, Bool, true, false, cond, ◌&&◌, ◌||◌, List, [], ◌∷◌, ℕ, suc, ◌-◌, ◌/◌, ◌%◌, ◌^◌, leb, ltb, eqb}
 use Rattle.block_read.specs.declared.read.Reading.{Reading}
-use Rattle.block_read.specs.declared.read.Reading.TheVariants.{Group, Broken}
 
 -- bytes changed row by row, the first of them being that of the row given
 abbrev pub each_row : (ℕ → ℕ → ℕ) → ℕ → List ℕ → List ℕ
@@ -27,19 +26,19 @@ abbrev pub marked_in_group : ℕ → ℕ → ℕ → ℕ → ℕ
 marked_in_group group value row byte = cond (is_clear group row) byte value
 
 -- the same of a group that was read: a broken read is damage
-abbrev pub free_in_reading : Reading → ℕ → ℕ → Bool
-free_in_reading (Group group opened) row byte = free_in_group group row byte
-free_in_reading Broken row byte = false
+abbrev pub free_in_reading : Option Reading → ℕ → ℕ → Bool
+free_in_reading (Some reading) row byte = free_in_group reading.group row byte
+free_in_reading None row byte = false
 
-abbrev pub marked_in_reading : Reading → ℕ → ℕ → ℕ → ℕ
-marked_in_reading (Group group opened) value row byte = marked_in_group group value row byte
-marked_in_reading Broken value row byte = byte
+abbrev pub marked_in_reading : Option Reading → ℕ → ℕ → ℕ → ℕ
+marked_in_reading (Some reading) value row byte = marked_in_group reading.group value row byte
+marked_in_reading None value row byte = byte
 
 -- a row below n in the groups from one up to another
 abbrev pub in_span : ℕ → ℕ → ℕ → ℕ → Bool
 in_span from to issued row = leb from (row / 31) && (ltb (row / 31) to && ltb row issued)
 
-module _ (reading : ℕ → Reading) (from to issued : ℕ) where
+module _ (reading : ℕ → Option Reading) (from to issued : ℕ) where
   -- what the readings of a span of groups say of a row
   abbrev pub free_in_groups : ℕ → ℕ → Bool
   free_in_groups row byte = cond (in_span from to issued row) (free_in_reading (reading (row / 31)) row byte) true
@@ -57,5 +56,5 @@ module _ (reading : ℕ → Reading) (from to issued : ℕ) where
   groups_marked value rows = each_row (marked_in_groups value) 0 rows
 
 -- readings of the same bits in every group
-abbrev pub alike : ℕ → ℕ → Reading
-alike bits group = Group bits 0
+abbrev pub alike : ℕ → ℕ → Option Reading
+alike bits group = Some (record { group = bits; opened = 0 })

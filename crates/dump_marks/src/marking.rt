@@ -7,7 +7,6 @@ ghost use Rattle.words.specs.Words.{all_ones};
 ghost use Rattle.words.specs.Inner.{Alone};
 ghost use Rattle.dump_marks.specs.Inner.{each_row, every_row, free_in_group, marked_in_group, marked_in_groups, groups_hold, groups_marked, alike};
 
-use groups::rows::smaller;
 use words::word::ALL_ONES;
 
 // Gives the value to each row of a group whose bit is 1, from one such row to the next; `rows` are the
@@ -50,18 +49,14 @@ fn by_bit(group: u32, row: usize, clear: u8, set: u8) -> u8
 // Gives the value to each row of a whole group whose bit is 1; `rows` has a byte more, which stays as it
 // is. All 32 are looked at: the loop is vectorised, sixteen at a time, and its masks are computed by the
 // compiler. (A table of them would be written to memory at each call.)
-fn mark_whole(rows: &mut [u8], group: u32, value: u8) -> bool
-    requires { length rows.old ≡ 32 }
+fn mark_whole(rows: &mut [u8; 32], group: u32, value: u8) -> bool
     ensures { (result ≡ groups_hold (alike group) 0 1 31 rows.old)
         × (result ≡ true → rows.new ≡ groups_marked (alike group) 0 1 31 value rows.old) }
 {
     let mut free: u8 = 255;
-    let mut row: usize = 0;
-    while row < 32 {
-        let byte = rows[row];
-        free &= by_bit(group, row, 255, byte);
-        rows[row] = by_bit(group, row, byte, value);
-        row += 1;
+    for (row, byte) in rows.iter_mut().enumerate() {
+        free &= by_bit(group, row, 255, *byte);
+        *byte = by_bit(group, row, *byte, value);
     }
     free == 255
 }
@@ -71,11 +66,8 @@ pub fn copy_rows(from: &[u8], to: &mut [u8], first: usize, count: usize)
     requires { (first + count ≤ length from.now) × (first + count ≤ length to.old) }
     ensures { to.new ≡ paste to.old first (drop first from.now) count }
 {
-    let mut i: usize = 0;
-    while i < count {
-        to[first + i] = from[first + i];
-        i += 1;
-    }
+    let end = first + count;
+    to[first..end].copy_from_slice(&from[first..end]);
 }
 
 // Gives the value to each row of a whole group whose bit is 1, in other bytes. The rows are copied there
@@ -105,11 +97,9 @@ fn mark_all(rows: &mut [u8], value: u8) -> bool
         × (result ≡ true → rows.new ≡ each_row (marked_in_group all_ones value) 0 rows.old) }
 {
     let mut free: u8 = 255;
-    let mut row: usize = 0;
-    while row < rows.len() {
-        free &= rows[row];
-        rows[row] = value;
-        row += 1;
+    for row in rows.iter_mut() {
+        free &= *row;
+        *row = value;
     }
     free == 255
 }
@@ -161,6 +151,6 @@ pub fn mark_groups(rows: &mut [u8], bits: u32, group: u32, end: u32, issued: u32
         let behind = start + 31;
         return mark_many(&mut rows[start..behind], bits, value);
     }
-    let stop = smaller(end as usize * 31, issued as usize);
+    let stop = (end as usize * 31).min(issued as usize);
     mark_alike(&mut rows[start..stop], bits, value)
 }

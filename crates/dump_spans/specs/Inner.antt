@@ -1,6 +1,6 @@
 -- Definitions that the contracts of inner functions alone cite: Dump span by span, fence by fence and value by value. Each row has a byte, 255 while
 -- no value has it.
-use Rattle.std.specs.Prelude.{Bool, true, ◌&&◌, List, [], ◌∷◌, ℕ, zero, suc, min, ◌+◌, ◌*◌, ltb, length, get_or, take}
+use Rattle.std.specs.Prelude.{Option, Bool, true, ◌&&◌, List, [], ◌∷◌, ℕ, zero, suc, min, ◌+◌, ◌*◌, ltb, length, get_or, take}
 use Rattle.answers.specs.Outcome.{◌when◌, Outcome, outcome}
 use Rattle.answers.specs.declared.Refusal.TheVariants.{OutSmall}
 use Rattle.groups.specs.Rows.{groups_for}
@@ -18,12 +18,12 @@ use Rattle.memory.specs.declared.header.Header.{Header}
 -- ---- a span of groups, which one fence serves
 
 -- readings by the walks over V from a word on, whose first group is given, and over U
-abbrev pub in_lists : Sizes → List ℕ → List ℕ → ℕ → ℕ → Reading
+abbrev pub in_lists : Sizes → List ℕ → List ℕ → ℕ → ℕ → Option Reading
 in_lists sizes value update first group =
     joined (group_read (walk_to value first group sizes.spacing)) (group_read (walk_to update 0 group (update_room sizes)))
 
 -- readings of a block, given a fence
-abbrev pub in_block : Sizes → Fence → List ℕ → ℕ → Reading
+abbrev pub in_block : Sizes → Fence → List ℕ → ℕ → Option Reading
 in_block sizes fence block group = read_group sizes fence group block
 
 module _ (sizes : Sizes) (fence : Fence) (block : List ℕ) (from to issued : ℕ) where

@@ -3,7 +3,6 @@ ghost use Rattle.std.specs.Prelude.{◌≡◌, true, ◌+◌, ◌-◌, ◌<◌, 
 ghost use Rattle.groups.specs.Rows.{groups_for};
 ghost use Rattle.words.specs.Inner.{Alone};
 ghost use Rattle.blocks.specs.Sizes.{block_size};
-ghost use Rattle.blocks.specs.Inner.{Limits};
 ghost use Rattle.dump_spans.specs.Inner.{in_lists, span_holds, span_marked};
 ghost use Rattle.dump_marks.specs.Inner.{groups_hold, groups_marked};
 
@@ -11,8 +10,8 @@ use block_read::fence::Fence;
 use blocks::layout::{update_length, update_list, value_length, value_list};
 use blocks::sizes::Sizes;
 use dump_marks::marking::mark_groups;
-use list_walk::walk::{Walk, walk_on, walk_to};
-use words::word::{ALL_ONES, group_in, smaller};
+use list_walk::walk::{walk_on, walk_to};
+use words::word::{ALL_ONES, group_in};
 
 // The groups `from` up to `to`, whose rows below `issued` get the value.
 #[derive(Clone, Copy)]
@@ -29,7 +28,7 @@ fn alike_up_to(bits: u32, group: u32, to: u32, beyond: u32, more: u32) -> u32
     requires { group < to }
     ensures { (group < result) × (result ≤ to) × (result - group ≤ beyond + 1) × (result - group ≤ more + 1) × Alone bits (result - group) }
 {
-    let behind = smaller(smaller(beyond, more), to - group - 1);
+    let behind = beyond.min(more).min(to - group - 1);
     if bits == 0 {
         return group + 1 + behind;
     }
@@ -50,16 +49,18 @@ fn mark_lists(
     first: u32,
     span: Span,
 ) -> bool
-    requires { Limits sizes × (span.from < span.to) × (span.to ≤ groups_for span.issued) × (span.issued ≤ length rows.old) }
+    requires { (span.from < span.to) × (span.to ≤ groups_for span.issued) × (span.issued ≤ length rows.old) }
     ensures { (result
         ≡ groups_hold (in_lists sizes list.now update.now first) span.from span.to span.issued rows.old)
         × (result ≡ true → rows.new
         ≡ groups_marked (in_lists sizes list.now update.now first) span.from span.to span.issued span.value rows.old) }
 {
-    let Walk::Covered(value_found) = walk_to(list, first, span.from, sizes.spacing as usize) else {
+    let spacing = sizes.spacing as usize;
+    let update_room = sizes.update_room;
+    let Some(value_found) = walk_to(list, first, span.from, spacing) else {
         return false;
     };
-    let Walk::Covered(update_found) = walk_to(update, 0, span.from, sizes.update_room) else {
+    let Some(update_found) = walk_to(update, 0, span.from, update_room) else {
         return false;
     };
     let mut v = value_found;
@@ -74,10 +75,10 @@ fn mark_lists(
         if end == span.to {
             return true;
         }
-        let Walk::Covered(value_next) = walk_on(list, v, end - group, sizes.spacing as usize) else {
+        let Some(value_next) = walk_on(list, v, end - group, spacing) else {
             return false;
         };
-        let Walk::Covered(update_next) = walk_on(update, u, end - group, sizes.update_room) else {
+        let Some(update_next) = walk_on(update, u, end - group, update_room) else {
             return false;
         };
         v = value_next;
@@ -90,7 +91,7 @@ fn mark_lists(
 // has a byte for each row. False if a read is broken or a row is in another value already: the bytes are then
 // good for nothing.
 pub fn mark_span(block: &[u32], rows: &mut [u8], sizes: Sizes, fence: Fence, span: Span) -> bool
-    requires { Limits sizes × (length block.now ≡ block_size sizes)
+    requires { (length block.now ≡ block_size sizes)
         × (span.from ≤ span.to) × (span.to ≤ groups_for span.issued) × (span.issued ≤ length rows.old) }
     ensures { (result ≡ span_holds sizes fence block.now span.from span.to span.issued rows.old)
         × (result ≡ true → rows.new

@@ -50,12 +50,10 @@ pub fn audit_values(
     requires { Planned header sizes (length words.now) (length fences.now) × (taken.old ≡ replicate 4096 0) }
     ensures { result ≡ is_sound header (memory_of words.now fences.now) }
 {
-    let mut value: u32 = 0;
-    while value < header.values {
+    for value in 0..header.values {
         if !audit_value(words, fences, taken, sizes, header.issued, value) {
             return false;
         }
-        value = value + 1;
     }
     true
 }

@@ -6,7 +6,6 @@ ghost use Rattle.dump_spans.specs.Inner.{fences_hold, marked_fences, values_hold
 ghost use Rattle.memory.specs.Inner.{Planned};
 ghost use Rattle.memory.specs.Memory.{memory_of};
 
-use crate::records::fence_at;
 use block_read::fence::Fence;
 use blocks::sizes::Sizes;
 use dump_spans::dump::{fences_for, mark_fence};
@@ -28,13 +27,10 @@ fn mark_value(
 {
     let count = fences_for(header.issued, header.spacing);
     let from = value as usize * sizes.fences;
-    let mut j: usize = 0;
-    while j < count {
-        let fence = fence_at(fences, from + j);
-        if !mark_fence(words, rows, sizes, fence, header.issued, value, j) {
+    for (j, fence) in fences[from..from + count].iter().enumerate() {
+        if !mark_fence(words, rows, sizes, *fence, header.issued, value, j) {
             return false;
         }
-        j = j + 1;
     }
     true
 }
@@ -51,12 +47,10 @@ pub fn mark_values(
     ensures { (result ≡ values_hold header (memory_of words.now fences.now) rows.old header.values)
         × (result ≡ true → rows.new ≡ marked_values header (memory_of words.now fences.now) rows.old header.values) }
 {
-    let mut value: u32 = 0;
-    while value < header.values {
+    for value in 0..header.values {
         if !mark_value(words, fences, rows, header, sizes, value) {
             return false;
         }
-        value = value + 1;
     }
     true
 }

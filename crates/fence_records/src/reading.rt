@@ -18,13 +18,12 @@ pub fn read_row(words: &[u32], fences: &[Fence], header: Header, sizes: Sizes, r
 {
     let nearest = fence_of(sizes, row);
     let mask = row_mask(row);
+    let count = sizes.fences;
     let mut found = no_row();
-    let mut value: u32 = 0;
-    while value < header.values {
-        let place = value as usize * sizes.fences + nearest;
+    for value in 0..header.values {
+        let place = value as usize * count + nearest;
         let fence = fence_at(fences, place);
         found = row_step(words, sizes, fence, row, mask, value, found);
-        value = value + 1;
     }
     found
 }

@@ -1,9 +1,8 @@
-// The lent fence records: a thin read and a thin write, and the two ways of going through the fences
-// of a value, which are made anew or compared. Where a fence leads is found on plain numbers.
-ghost use Rattle.std.specs.Prelude.{◌≡◌, ◌<◌, ◌≤◌, length, get_or, set};
+// The lent fence records: a thin read, and the two ways of going through the fences of a value, which are made anew,
+// each written to its record, or compared. Where a fence leads is found on plain numbers.
+ghost use Rattle.std.specs.Prelude.{◌≡◌, ◌≤◌, length, get_or};
 ghost use Rattle.blocks.specs.Sizes.{value_room};
 ghost use Rattle.blocks.specs.Block.{value_length};
-ghost use Rattle.block_read.specs.Fences.{fence_of};
 ghost use Rattle.memory.specs.Fences.{no_fence, right_fences};
 ghost use Rattle.memory.specs.Inner.{Fenced};
 ghost use Rattle.memory.specs.Memory.{block_at, list_at, fences_at};
@@ -11,25 +10,16 @@ ghost use Rattle.change_value.specs.Change.{renewed};
 
 use block_read::fence::Fence;
 use blocks::sizes::Sizes;
-use memory::fence::{find_fence, first_word, is_fence};
+use memory::fence::{find_fence, first_word};
 
 // The record at a place; a record of zeros past the last one lent.
 pub fn fence_at(fences: &[Fence], i: usize) -> Fence
     ensures { result ≡ get_or fences.now i no_fence }
 {
-    if i < fences.len() {
-        fences[i]
-    } else {
-        Fence { place: 0, first: 0 }
-    }
-}
-
-// Writes the record at a place.
-pub fn put_fence(fences: &mut [Fence], i: usize, place: u32, first: u32)
-    requires { i < length fences.old }
-    ensures { fences.new ≡ set fences.old i (fence_of place first) }
-{
-    fences[i] = Fence { place, first };
+    fences
+        .get(i)
+        .copied()
+        .unwrap_or(Fence { place: 0, first: 0 })
 }
 
 // Makes the fences of a value anew, in one pass over its list.
@@ -39,11 +29,9 @@ pub fn renew(words: &[u32], fences: &mut [Fence], sizes: Sizes, value: u32)
 {
     let from = value as usize * sizes.fences;
     let mut fence = first_word();
-    let mut j: usize = 0;
-    while j < sizes.fences {
+    for (j, record) in fences[from..from + sizes.fences].iter_mut().enumerate() {
         fence = find_fence(words, sizes, value, fence, j);
-        put_fence(fences, from + j, fence.place, fence.first);
-        j = j + 1;
+        *record = fence;
     }
 }
 
@@ -54,14 +42,11 @@ pub fn fences_right(words: &[u32], fences: &[Fence], sizes: Sizes, value: u32) -
 {
     let from = value as usize * sizes.fences;
     let mut fence = first_word();
-    let mut j: usize = 0;
-    while j < sizes.fences {
+    for (j, record) in fences[from..from + sizes.fences].iter().enumerate() {
         fence = find_fence(words, sizes, value, fence, j);
-        let lent = fence_at(fences, from + j);
-        if !is_fence(fence, lent) {
+        if fence != *record {
             return false;
         }
-        j = j + 1;
     }
     true
 }

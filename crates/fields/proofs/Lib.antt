@@ -1,2 +1,4 @@
 pub mod Cases
+pub mod Reading
 pub mod Spelling
+pub mod Splitting

@@ -4,57 +4,39 @@ ghost use Rattle.fields.specs.Numbers.{with_digit, decimal_in, word_in};
 
 use digits::reading::{all_digits, digit_of, number_in};
 
-// What a field or a part of it spells: a number, or none.
-#[derive(Clone, Copy)]
-pub enum Number {
-    Is(u32),
-    Not,
-}
-
 // A number with one digit more; none where that is no decimal digit, or the number passes 4294967295.
-fn with_digit(value: u32, digit: u8) -> Number
+#[tactic(auto, unfolding(crate::specs::Numbers::with_digit))]
+fn with_digit(value: u32, digit: u8) -> Option<u32>
     ensures { result ≡ with_digit value digit }
 {
     if 10 <= digit {
-        return Number::Not;
+        return None;
     }
-    let next = value as u64 * 10 + digit as u64;
-    if 4294967295 < next {
-        return Number::Not;
-    }
-    let number = next as u32;
-    Number::Is(number)
+    value.checked_mul(10)?.checked_add(u32::from(digit))
 }
 
 // A decimal number, up to 4294967295.
-pub fn decimal_in(digits: &[u8]) -> Number
+pub fn decimal_in(digits: &[u8]) -> Option<u32>
     ensures { result ≡ decimal_in digits.now }
 {
-    if digits.len() == 0 {
-        return Number::Not;
+    if digits.is_empty() {
+        return None;
     }
-    let mut value: u32 = 0;
-    let mut i: usize = 0;
-    while i < digits.len() {
-        let digit = digit_of(digits[i]);
-        let Number::Is(next) = with_digit(value, digit) else {
-            return Number::Not;
-        };
-        value = next;
-        i += 1;
+    let mut value = 0;
+    for byte in digits {
+        value = with_digit(value, digit_of(*byte)?)?;
     }
-    Number::Is(value)
+    Some(value)
 }
 
 // A word: 8 hexadecimal digits.
-pub fn word_in(digits: &[u8]) -> Number
+#[tactic(auto, unfolding(crate::specs::Numbers::word_in))]
+pub fn word_in(digits: &[u8]) -> Option<u32>
     ensures { result ≡ word_in digits.now }
 {
-    if digits.len() != 8 {
-        return Number::Not;
+    if digits.len() == 8 && all_digits(digits) {
+        Some(number_in(digits))
+    } else {
+        None
     }
-    if !all_digits(digits) {
-        return Number::Not;
-    }
-    Number::Is(number_in(digits))
 }

@@ -1,6 +1,6 @@
 -- One group: its bits, the bit under a mask, and the group of some rows. Assumes nothing.
 use mathlib.Core.Path.{◌≡◌, refl, ◌∙◌, ap, sym}
-use mathlib.Core.Bool.{true, ◌&&◌}
+use mathlib.Core.Bool.{Bool, true, false, not, ◌&&◌}
 use mathlib.Core.Logic.{by_cases}
 use mathlib.Core.List.{List, [], ◌∷◌, ◌++◌}
 use Prim.Native.Nat.{ℕ, zero, suc, min, ◌+◌, ◌*◌, ◌-◌, ◌/◌, ◌%◌, ◌^◌, ◌<◌, ◌≤◌}
@@ -14,7 +14,8 @@ use lib.Dec.{eqb, eqb-suc-zero}
 use lib.ListN.{length, get_or, take, drop, set}
 use lib.Pow.{pow-add, pow_pos, pow-lt, shl-shr, mod-pow-add, mod-mod-pow, field, high, low}
 use lib.Seq.{take-nil, paste-suc}
-use borrow.Author.Tests.{lt-ltb, ne_eqb}
+use mir.Val.{bool_byte}
+use borrow.Author.Tests.{lt-ltb, eqb-true, eqb-false, ne_eqb}
 use Rattle.groups.specs.Rows.{are_bits, group_of, bits_of, all_zero}
 use Rattle.groups.proofs.Bits.{first_bit, other_bits}
 
@@ -62,6 +63,14 @@ module _ (group k : ℕ) where
   mask_set e =
       let some : (group / 2 ^ k % 2 ≡ 0 → ⊥) = λ none. e (and-bit ∙ rw none (omega arith)) in
       omega (arith, some)
+
+  -- the row that the test answers as a number
+  pub row_under : bool_byte (not (eqb (bit_and group (2 ^ k)) 0)) ≡ group / 2 ^ k % 2
+  row_under = go (eqb (bit_and group (2 ^ k)) 0) refl
+    where
+      go : (s : Bool) → eqb (bit_and group (2 ^ k)) 0 ≡ s → bool_byte (not s) ≡ group / 2 ^ k % 2
+      go true e = mask_clear (eqb-true (bit_and group (2 ^ k)) 0 e)
+      go false e = mask_set (eqb-false (bit_and group (2 ^ k)) 0 e)
 
 -- ---- the bits of a group
 

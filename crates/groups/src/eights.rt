@@ -8,7 +8,7 @@ ghost use Rattle.groups.specs.Inner.{four_bytes, bytes_of};
 pub fn wide(byte: u8) -> u32
     ensures { (result ≡ byte) × (result < 256) }
 {
-    byte as u32
+    u32::from(byte)
 }
 
 // Four bytes as one number, the first the lowest: the compiler reads them at once.
@@ -16,10 +16,7 @@ fn four_bytes(bytes: &[u8], at: usize) -> u32
     requires { at + 4 ≤ length bytes.now }
     ensures { result ≡ four_bytes bytes.now at }
 {
-    wide(bytes[at])
-        + wide(bytes[at + 1]) * 0x100
-        + wide(bytes[at + 2]) * 0x10000
-        + wide(bytes[at + 3]) * 0x1000000
+    u32::from_le_bytes([bytes[at], bytes[at + 1], bytes[at + 2], bytes[at + 3]])
 }
 
 // The eight bits of a number that stand above its lowest `below` bits.
@@ -38,8 +35,8 @@ pub fn eight_rows(rows: &[u8], at: usize) -> u32
     requires { (are_bits rows.now ≡ true) × (at + 8 ≤ length rows.now) }
     ensures { (result ≡ group_of 8 (drop at rows.now)) × (result < 256) }
 {
-    let first = four_bytes(rows, at) as u64;
-    let last = four_bytes(rows, at + 4) as u64;
+    let first = u64::from(four_bytes(rows, at));
+    let last = u64::from(four_bytes(rows, at + 4));
     let copies = (first * 16 + last) * 0x08040201;
     wide(eight_bits(copies, 24))
 }
@@ -51,13 +48,14 @@ pub fn eight_rows(rows: &[u8], at: usize) -> u32
 fn spread(eight: u8) -> u64
     ensures { bytes_of 8 result ≡ bits_of 8 eight }
 {
-    let bits = eight as u64;
+    let bits = u64::from(eight);
     let copies = bits * 0x0040201008040201 + (bits & 1) * 0x8000000000000000;
     (copies >> 7) & 0x0101010101010101
 }
 
 // Writes the eight bytes of a number, the lowest first. The compiler writes them at once, as long as it
-// knows nothing of the number: so this stands apart from `put_eight`.
+// knows nothing of the number: so this stands apart from `put_eight`. To copy `to_le_bytes` there by
+// `copy_from_slice` would first test whether the two overlap.
 fn put_bytes(out: &mut [u8], at: usize, number: u64)
     requires { at + 8 ≤ length out.old }
     ensures { out.new ≡ sets out.old at (bytes_of 8 number) }

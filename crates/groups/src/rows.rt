@@ -1,5 +1,5 @@
 // Rows and groups: a group is 31 rows in a word, the first row at the highest of its 31 bits.
-ghost use Rattle.std.specs.Prelude.{◌≡◌, true, ℕ, min, ◌-◌, ◌/◌, ◌%◌, ◌^◌, ◌<◌, ◌≤◌, length, take};
+ghost use Rattle.std.specs.Prelude.{◌≡◌, true, ℕ, ◌-◌, ◌/◌, ◌%◌, ◌^◌, ◌<◌, ◌≤◌, length, take};
 ghost use Rattle.groups.specs.Rows.{row_limit, groups_for, are_bits, group_of, bits_of, all_zero};
 
 use crate::eights::{eight_bits, eight_rows, put_eight, wide};
@@ -18,18 +18,12 @@ pub const MASKS: [u32; 31] = [
     0x00000040, 0x00000020, 0x00000010, 0x00000008, 0x00000004, 0x00000002, 0x00000001,
 ];
 
-pub fn smaller(x: usize, y: usize) -> usize
-    ensures { result ≡ min x y }
-{
-    if x < y { x } else { y }
-}
-
 // M: how many groups `length` rows have.
 pub fn groups_for(length: usize) -> usize
     requires { length ≤ row_limit }
     ensures { result ≡ groups_for length }
 {
-    (length + 30) / 31
+    length.div_ceil(31)
 }
 
 // Whether each byte is 0 or 1. It looks at all of them: without an early end the loop is vectorised.
@@ -37,12 +31,8 @@ pub fn all_bits(rows: &[u8]) -> bool
     ensures { result ≡ are_bits rows.now }
 {
     let mut largest: u8 = 0;
-    let mut i: usize = 0;
-    while i < rows.len() {
-        if largest < rows[i] {
-            largest = rows[i];
-        }
-        i += 1;
+    for &row in rows {
+        largest = largest.max(row);
     }
     largest < 2
 }
@@ -52,10 +42,8 @@ pub fn all_zero(words: &[u32]) -> bool
     ensures { result ≡ all_zero words.now }
 {
     let mut gathered: u32 = 0;
-    let mut i: usize = 0;
-    while i < words.len() {
-        gathered |= words[i];
-        i += 1;
+    for &word in words {
+        gathered |= word;
     }
     gathered == 0
 }
@@ -75,12 +63,10 @@ fn short_group(rows: &[u8]) -> u32
     ensures { result ≡ group_of 31 rows.now }
 {
     let mut group: u32 = 0;
-    let mut i: usize = 0;
-    while i < rows.len() {
-        group = group * 2 + wide(rows[i]);
-        i += 1;
+    for &row in rows {
+        group = group * 2 + wide(row);
     }
-    group << (31 - i)
+    group << (31 - rows.len())
 }
 
 // The group of at most 31 rows, each 0 or 1; a short group is filled with zeros at its low end.
@@ -99,7 +85,7 @@ pub fn group_of(rows: &[u8]) -> u32
 pub fn under(group: u32, mask: u32) -> u8
     ensures { (k : ℕ) → mask ≡ 2 ^ k → result ≡ group / 2 ^ k % 2 }
 {
-    if group & mask == 0 { 0 } else { 1 }
+    u8::from(group & mask != 0)
 }
 
 // The mask of row i of a group.
@@ -123,10 +109,11 @@ fn put_whole(out: &mut [u8], group: u32)
     requires { length out.old ≡ 31 }
     ensures { out.new ≡ bits_of 31 group }
 {
-    put_eight(out, 0, eight_bits(group as u64, 23));
-    put_eight(out, 8, eight_bits(group as u64, 15));
-    put_eight(out, 16, eight_bits(group as u64, 7));
-    put_eight(out, 23, eight_bits(group as u64, 0));
+    let bits = u64::from(group);
+    put_eight(out, 0, eight_bits(bits, 23));
+    put_eight(out, 8, eight_bits(bits, 15));
+    put_eight(out, 16, eight_bits(bits, 7));
+    put_eight(out, 23, eight_bits(bits, 0));
 }
 
 // Writes the first rows of a group, one after the other.
@@ -134,11 +121,8 @@ fn put_short(out: &mut [u8], group: u32)
     requires { length out.old ≤ 31 }
     ensures { out.new ≡ take (length out.old) (bits_of 31 group) }
 {
-    let masks = MASKS;
-    let mut i: usize = 0;
-    while i < out.len() {
-        out[i] = under(group, masks[i]);
-        i += 1;
+    for (i, row) in out.iter_mut().enumerate() {
+        *row = row_of(group, i);
     }
 }
 

@@ -1,5 +1,6 @@
 -- The contracts of the calls in index/src, as the checker has them: each asks nothing, and promises just what specs/Promises.antt says of the call, on
 -- the index of the header and the memory that it is lent. Assumes nothing.
+use Rattle.std.specs.Prelude.{Result}
 use mathlib.Core.Path.{◌≡◌, refl}
 use mathlib.Core.List.{List}
 use Prim.Native.Nat.{ℕ}
@@ -12,7 +13,6 @@ use contract.Lifetimes.{Lfts}
 use contract.Monad.{Fun, fact}
 use denote.Triple.Clauses.{AtExit}
 use denote.Triple.Entry.{Args, Res}
-use Rattle.answers.specs.declared.Answer.{Answer}
 use Rattle.block_read.specs.declared.fence.Fence.{Fence}
 use Rattle.memory.specs.Memory.{memory_of}
 use Rattle.memory.specs.declared.header.Changed.{Changed}
@@ -28,6 +28,7 @@ use Rattle.index.specs.contracts.dumping.dump as dump
 use Rattle.index.specs.contracts.loading.load as load
 use Rattle.history.specs.Calls.{Load, Query, Value, Insert, Update, Delete, Merge, Dump, Audit, Index, index_of}
 use Rattle.history.specs.Promises.{Left, Written, Promised}
+use Rattle.answers.specs.declared.Refusal.{Refusal}
 
 -- the index of a header, with the words and fences lent
 abbrev lent_to : Header → List ℕ → List Fence → Index
@@ -37,7 +38,7 @@ lent_to header words fences = index_of header (memory_of words fences)
 abbrev left_in : Changed → List ℕ → List Fence → Left
 left_in changed words fences = record { changed = changed; words = words; fences = fences }
 
-abbrev written_in : Answer → List ℕ → Written
+abbrev written_in : Result ℕ Refusal → List ℕ → Written
 written_in answer out = record { answer = answer; out = out }
 
 module _ {M : Type 1} {𝓤 : Ura M} (𝓛 : Logic 𝓤) (mem : Machine → SProp 𝓤) (run : Routine → Fun 𝓤) where

@@ -9,7 +9,6 @@ use lib.ListN.{get_or}
 use borrow.Author.Tests.{leb-false}
 use Rattle.answers.specs.declared.Refusal.TheVariants.{Damaged}
 use Rattle.blocks.specs.declared.sizes.Sizes.{Sizes}
-use Rattle.block_read.specs.declared.read.Reading.TheVariants.{Group}
 use Rattle.memory.specs.Memory.{Memory, sizes_of, rows_in, every}
 use Rattle.memory.specs.Reading.{row_step, read_row, row_of, is_damaged, is_deleted, refused_value, value_of, ValuePaper, state_paper, value_paper}
 use Rattle.memory.specs.declared.header.Header.{Header}
@@ -23,6 +22,7 @@ use Rattle.index.specs.Calls.{query_list, query_outcome, value_outcome, byte_of,
 use Rattle.history.proofs.Sound.{sound_lent, sound_whole}
 use Rattle.history.proofs.SoundReading.{sound_reads, row_undamaged}
 use Rattle.history.proofs.Tests.{either}
+use Rattle.block_read.proofs.Readings.{read_as}
 
 -- ---- answers that differ in the words opened alone
 
@@ -33,7 +33,7 @@ record SameRow (one other : Row) : Type 0 where
   pub value : one.value ≡ other.value
 
 same_step : (row value group opened more : ℕ) {one other : Row} → SameRow one other
-    → SameRow (row_step row value one (Group group opened)) (row_step row value other (Group group more))
+    → SameRow (row_step row value one (read_as group opened)) (row_step row value other (read_as group more))
 same_step row value group opened more {one} {other} same = go (eqb (group / 2 ^ (30 - row % 31) % 2) 0)
   where
     go : (clear : Bool)

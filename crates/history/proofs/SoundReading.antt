@@ -11,8 +11,8 @@ use borrow.Author.Tests.{le-ltb}
 use Rattle.groups.specs.Rows.{row_at}
 use Rattle.blocks.specs.declared.sizes.Sizes.{Sizes}
 use Rattle.blocks.proofs.SizeLaws.{fence_of_lem}
-use Rattle.block_read.specs.declared.read.Reading.TheVariants.{Group}
 use Rattle.block_read.proofs.Reaching.{Reaches, fence_reads}
+use Rattle.block_read.proofs.Readings.{read_as}
 use Rattle.memory.specs.Memory.{Memory, sizes_of, block_at, rows_in, holders_of}
 use Rattle.memory.specs.Reading.{fence_for, read_in, row_step, read_row, row_of, is_damaged}
 use Rattle.memory.specs.declared.header.Header.{Header}
@@ -36,7 +36,7 @@ module _ (row value : ℕ) (before : Row) (group opened : ℕ) where
     pub kept : bit ≡ 0 → after.value ≡ before.value
     pub taken : bit ≡ 1 → after.value ≡ value
 
-  stepped : Stepped (row_step row value before (Group group opened))
+  stepped : Stepped (row_step row value before (read_as group opened))
   stepped =
       by_cases (dec_lt 0 bit)
       (λ some. rw (step_set row value before group opened (λ none. omega arith))

@@ -1,9 +1,8 @@
 -- Demand 3: what the code of each call gives back and leaves, and what it promises of that: the promise that stands at the call in index/src.
 -- history/proofs/Contracts.antt shows that they are the same, CodeHistory.antt that what is promised is what `obey` says.
-use Rattle.std.specs.Prelude.{◌≡◌, List, [], ◌∷◌, ℕ, ◌≤◌, length}
+use Rattle.std.specs.Prelude.{Result, ◌≡◌, List, [], ◌∷◌, ℕ, ◌≤◌, length}
 use Rattle.answers.specs.Numbers.{paper}
 use Rattle.answers.specs.Outcome.{Gives}
-use Rattle.answers.specs.declared.Answer.{Answer}
 use Rattle.block_read.specs.declared.fence.Fence.{Fence}
 use Rattle.memory.specs.Memory.{memory_of}
 use Rattle.memory.specs.Outcomes.{Leaves}
@@ -14,6 +13,7 @@ use Rattle.index.specs.Calls.{load_after, query_outcome, value_outcome, insert_a
 use Rattle.history.specs.Calls.{Call, Load, Query, Value, Insert, Update, Delete, Merge, Dump, Audit, Index, Reply, counted, finding, replied}
 use Rattle.history.specs.Plain.{Plain, plainly, plain_loaded, plain_run}
 use Rattle.history.specs.History.{opened_limit}
+use Rattle.answers.specs.declared.Refusal.{Refusal}
 
 -- an answer with a header, and the words and fences left
 pub record Left : Type 0 where
@@ -23,7 +23,7 @@ pub record Left : Type 0 where
 
 -- an answer, and the output left
 pub record Written : Type 0 where
-  pub answer : Answer
+  pub answer : Result ℕ Refusal
   pub out : List ℕ
 
 -- what the code of each call gives back and leaves
@@ -36,7 +36,7 @@ Given (Update row value) = Left
 Given (Delete row) = Left
 Given (Merge value) = Left
 Given (Dump out) = Written
-Given Audit = Answer
+Given Audit = Result ℕ Refusal
 
 -- its promise, on an index
 abbrev pub Promised : Index → (call : Call) → Given call → Type 0

@@ -1,4 +1,5 @@
 -- Dump's loop over the values, row by row: a row's byte tells what reading the row in the first values says. Assumes nothing.
+use Rattle.std.specs.Prelude.{Some, Option, None}
 use mathlib.Core.Path.{◌≡◌, refl, ◌∙◌, ap, ap₂, sym}
 use mathlib.Core.Bool.{Bool, true, false, not, cond, ◌&&◌, ◌||◌, and-true, and-false, false≢true}
 use mathlib.Core.List.{List}
@@ -8,7 +9,6 @@ use lib.Dec.{eqb, ltb}
 use borrow.Author.Tests.{lt-ltb, ne_eqb}
 use Rattle.dump_marks.specs.Inner.{each_row, every_row, free_in_reading, marked_in_reading}
 use Rattle.block_read.specs.declared.read.Reading.{Reading}
-use Rattle.block_read.specs.declared.read.Reading.TheVariants.{Group, Broken}
 use Rattle.dump_marks.proofs.EachRow.{each_keeps, each_then, each_every, every_then}
 use Rattle.memory.specs.Memory.{Memory, sizes_of}
 use Rattle.memory.specs.Reading.{read_in, row_step, read_row, is_damaged, is_deleted}
@@ -57,18 +57,18 @@ module _ (row value : ℕ) (free : Bool) (byte : ℕ) (before : Row) (tells : Te
         written = λ yes. rw (ne_eqb (before.holders + 1) 0 (omega arith)) refl;
       }
 
-  tells_step : (reading : Reading)
+  tells_step : (reading : Option Reading)
       → Tells (free && free_in_reading reading row byte) (marked_in_reading reading value row byte) (row_step row value before reading)
-  tells_step Broken = record { whole = and-false free; written = λ yes. absurd (false≢true (sym (and-false free) ∙ yes)) }
-  tells_step (Group group opened) = go (eqb (group / 2 ^ (30 - row % 31) % 2) 0)
+  tells_step None = record { whole = and-false free; written = λ yes. absurd (false≢true (sym (and-false free) ∙ yes)) }
+  tells_step (Some reading) = go (eqb (reading.group / 2 ^ (30 - row % 31) % 2) 0)
     where
       go : (clear : Bool)
           → Tells (free && (clear || eqb byte 255)) (cond clear byte value)
           (cond clear
-          (record { damaged = before.damaged; holders = before.holders; value = before.value; opened = before.opened + opened })
-          (record { damaged = before.damaged; holders = before.holders + 1; value = value; opened = before.opened + opened }))
+          (record { damaged = before.damaged; holders = before.holders; value = before.value; opened = before.opened + reading.opened })
+          (record { damaged = before.damaged; holders = before.holders + 1; value = value; opened = before.opened + reading.opened }))
       go true = record { whole = and-true free ∙ tells.whole; written = λ yes. tells.written (sym (and-true free) ∙ yes) }
-      go false = has_row (before.opened + opened)
+      go false = has_row (before.opened + reading.opened)
 
 module _ (header : Header) (memory : Memory) where
   -- behind the first values, a row's byte tells what reading it in them says

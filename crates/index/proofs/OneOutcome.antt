@@ -1,9 +1,9 @@
 -- Document 01, "How tightly each call is bound": any two outcomes that a call's promise allows are equal. Assumes nothing.
+use Rattle.std.specs.Prelude.{Result}
 use mathlib.Core.Path.{◌≡◌, sym, ap₂, ◌∙◌}
 use mathlib.Core.List.{List}
 use Prim.Native.Nat.{ℕ}
 use Rattle.answers.specs.Outcome.{Outcome, Gives}
-use Rattle.answers.specs.declared.Answer.{Answer}
 use Rattle.answers.proofs.OneToOne.{one_to_one, gives_one}
 use Rattle.memory.specs.Memory.{Memory}
 use Rattle.memory.specs.Outcomes.{After, Leaves}
@@ -15,12 +15,13 @@ use Rattle.block_read.specs.declared.fence.Fence.{Fence}
 use Rattle.memory.specs.declared.header.Changed.{Changed}
 use Rattle.memory.specs.declared.row.Value.{Value}
 use Rattle.index.proofs.ValuePapers.{value-one_to_one}
+use Rattle.answers.specs.declared.Refusal.{Refusal}
 
 -- ---- one outcome of each kind of promise
 
 -- the promise of a call with an output
 abbrev pub OneOutput : Outcome → Type 0
-OneOutput outcome = (a b : Answer) (out other : List ℕ) → Gives outcome a out → Gives outcome b other → (a ≡ b) × (out ≡ other)
+OneOutput outcome = (a b : Result ℕ Refusal) (out other : List ℕ) → Gives outcome a out → Gives outcome b other → (a ≡ b) × (out ≡ other)
 
 -- the promise of a change
 abbrev pub OneChange : After → Type 0
@@ -30,7 +31,7 @@ OneChange after =
 
 one-change : (after : After) → OneChange after
 one-change after a b words others fences records l m = (
-  ap₂ (λ (header : Header) (answer : Answer). record { header = header; answer = answer })
+  ap₂ (λ (header : Header) (answer : Result ℕ Refusal). record { header = header; answer = answer })
       (l.gives ∙ sym m.gives) (one_to_one a.answer b.answer (l.answers ∙ sym m.answers)),
   l.leaves ∙ sym m.leaves,
   l.keeps ∙ sym m.keeps,
@@ -45,7 +46,7 @@ module _ (header : Header) (memory : Memory) where
   pub one_dump : (out : List ℕ) → OneOutput (dump_outcome header memory out)
   one_dump out = gives_one (dump_outcome header memory out)
 
-  pub one_audit : (a b : Answer) (out other : List ℕ) → Gives (audit_outcome header memory) a out → Gives (audit_outcome header memory) b other → a ≡ b
+  pub one_audit : (a b : Result ℕ Refusal) (out other : List ℕ) → Gives (audit_outcome header memory) a out → Gives (audit_outcome header memory) b other → a ≡ b
   one_audit a b out other g h = (gives_one (audit_outcome header memory) a b out other g h).0
 
   pub one_value : (row : ℕ) (a b : Value) → value_paper a ≡ value_outcome header memory row → value_paper b ≡ value_outcome header memory row → a ≡ b

@@ -1,12 +1,12 @@
 -- What Value answers: the words that it opens, and that the paper tells its answers apart. Assumes nothing.
+use Rattle.std.specs.Prelude.{Result, Ok, Err}
 use mathlib.Core.Path.{◌≡◌, refl, sym, ap, ap₂, ◌∙◌}
 use mathlib.Core.Bool.{Bool, true, false, cond}
 use Prim.Native.Nat.{ℕ, zero, suc, ◌*◌, ◌<◌, ◌≤◌}
 use native.Mathlib.Omega.{arith}
 use borrow.Author.Tests.{eqb-false}
 use Rattle.answers.specs.Numbers.{Paper, paper}
-use Rattle.answers.specs.declared.Answer.{Answer}
-use Rattle.answers.specs.declared.Answer.TheVariants as answer
+use Rattle.answers.specs.declared.Refusal.{Refusal}
 use Rattle.answers.specs.declared.Refusal.TheVariants.{Damaged}
 use Rattle.answers.proofs.OneToOne.{one_to_one}
 use Rattle.memory.specs.Memory.{Memory, sizes_of}
@@ -21,16 +21,16 @@ use Rattle.memory.proofs.RowLaws.{read_budget, row_opened}
 -- ---- the paper
 
 -- the number and the value of a state are those of an answer, which has the state again beside whether the row is live
-answer_of : State → Answer
-answer_of (Live value) = answer.Done value
-answer_of Deleted = answer.Done 255
-answer_of (Refused refusal) = answer.Refused refusal
+answer_of : State → Result ℕ Refusal
+answer_of (Live value) = Ok value
+answer_of Deleted = Ok 255
+answer_of (Refused refusal) = Err refusal
 
-state_of : ℕ → Answer → State
-state_of zero (answer.Done value) = Deleted
-state_of (suc live) (answer.Done value) = Live value
-state_of zero (answer.Refused refusal) = Refused refusal
-state_of (suc live) (answer.Refused refusal) = Refused refusal
+state_of : ℕ → Result ℕ Refusal → State
+state_of zero (Ok value) = Deleted
+state_of (suc live) (Ok value) = Live value
+state_of zero (Err refusal) = Refused refusal
+state_of (suc live) (Err refusal) = Refused refusal
 
 state_back : (state : State) (opened : ℕ) → state_of (state_paper state opened).live (answer_of state) ≡ state
 unfolding answer_of state_of

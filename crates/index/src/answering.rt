@@ -9,7 +9,7 @@ use answers::Answer;
 use block_read::fence::Fence;
 use change_value::value::{enter_whole, list_value};
 use fence_records::reading::read_row;
-use memory::entry::{Entry, enter_row};
+use memory::entry::enter_row;
 use memory::header::Header;
 use memory::row::{Value, refused, value_of};
 
@@ -22,8 +22,8 @@ pub fn value(words: &[u32], fences: &[Fence], header: Header, row: u32) -> Value
     ensures { value_paper result ≡ value_outcome header (memory_of words.now fences.now) row }
 {
     match enter_row(words.len(), fences.len(), header, row) {
-        Entry::Stop(refusal) => refused(refusal),
-        Entry::Ready(sizes) => {
+        Err(refusal) => refused(refusal),
+        Ok(sizes) => {
             let found = read_row(words, fences, header, sizes, row);
             value_of(found)
         }
@@ -38,8 +38,6 @@ pub fn value(words: &[u32], fences: &[Fence], header: Header, row: u32) -> Value
 pub fn query(words: &[u32], fences: &[Fence], out: &mut [u32], header: Header, value: u32) -> Answer
     ensures { Gives (query_outcome header (memory_of words.now fences.now) value out.old) result out.new }
 {
-    match enter_whole(words, fences.len(), header, value) {
-        Entry::Stop(refusal) => Answer::Refused(refusal),
-        Entry::Ready(sizes) => list_value(words, out, sizes, value),
-    }
+    let sizes = enter_whole(words, fences.len(), header, value)?;
+    list_value(words, out, sizes, value)
 }

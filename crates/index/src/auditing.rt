@@ -11,7 +11,7 @@ use block_read::fence::Fence;
 use blocks::sizes::Sizes;
 use fence_records::checking::audit_values;
 use groups::rows::GROUP_LIMIT;
-use memory::entry::{Entry, enter_index};
+use memory::entry::enter_index;
 use memory::header::Header;
 
 // Audit of an index whose header and sizes hold.
@@ -21,9 +21,9 @@ fn audit_index(words: &[u32], fences: &[Fence], header: Header, sizes: Sizes) ->
 {
     let mut taken = [0u32; GROUP_LIMIT];
     if !audit_values(words, fences, &mut taken, header, sizes) {
-        return Answer::Refused(Refusal::Damaged);
+        return Err(Refusal::Damaged);
     }
-    Answer::Done(0)
+    Ok(0)
 }
 
 // Accepts exactly sound indexes; nothing is changed. Each word is read once for the whole check and once for
@@ -33,8 +33,6 @@ fn audit_index(words: &[u32], fences: &[Fence], header: Header, sizes: Sizes) ->
 pub fn audit(words: &[u32], fences: &[Fence], header: Header) -> Answer
     ensures { paper result ≡ (audit_outcome header (memory_of words.now fences.now)).answer }
 {
-    match enter_index(words.len(), fences.len(), header) {
-        Entry::Stop(refusal) => Answer::Refused(refusal),
-        Entry::Ready(sizes) => audit_index(words, fences, header, sizes),
-    }
+    let sizes = enter_index(words.len(), fences.len(), header)?;
+    audit_index(words, fences, header, sizes)
 }

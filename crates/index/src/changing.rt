@@ -4,11 +4,10 @@ ghost use Rattle.memory.specs.Memory.{memory_of};
 ghost use Rattle.memory.specs.Outcomes.{Leaves};
 ghost use Rattle.index.specs.Calls.{merge_after, insert_after, delete_after, update_after};
 
-use crate::deciding::{Flipping, Moving, decide_delete, decide_insert, decide_update};
+use crate::deciding::{decide_delete, decide_insert, decide_update};
 use block_read::fence::Fence;
 use change_value::value::enter_whole;
 use fence_records::changing::{flip_fenced, merge_fenced};
-use memory::entry::Entry;
 use memory::header::{Changed, Header, done, grow, refuse};
 
 // Merges a value: V becomes V xor U, its fences are made anew and U becomes all zero. On a sound index this
@@ -19,8 +18,8 @@ pub fn merge(words: &mut [u32], fences: &mut [Fence], header: Header, value: u32
     ensures { Leaves (merge_after header (memory_of words.old fences.old) value) result words.new fences.new }
 {
     match enter_whole(words, fences.len(), header, value) {
-        Entry::Stop(refusal) => refuse(header, refusal),
-        Entry::Ready(sizes) => {
+        Err(refusal) => refuse(header, refusal),
+        Ok(sizes) => {
             merge_fenced(words, fences, sizes, value);
             done(header)
         }
@@ -36,9 +35,16 @@ pub fn insert(words: &mut [u32], fences: &mut [Fence], header: Header, value: u3
     ensures { Leaves (insert_after header (memory_of words.old fences.old) value) result words.new fences.new }
 {
     match decide_insert(words, fences, header, value) {
-        Flipping::Kept(refusal) => refuse(header, refusal),
-        Flipping::Flips(sizes, into, merges) => {
-            flip_fenced(words, fences, sizes, into, header.issued, merges);
+        Err(refusal) => refuse(header, refusal),
+        Ok(flip) => {
+            flip_fenced(
+                words,
+                fences,
+                flip.sizes,
+                flip.value,
+                header.issued,
+                flip.merges,
+            );
             grow(header)
         }
     }
@@ -53,9 +59,9 @@ pub fn delete(words: &mut [u32], fences: &mut [Fence], header: Header, row: u32)
     ensures { Leaves (delete_after header (memory_of words.old fences.old) row) result words.new fences.new }
 {
     match decide_delete(words, fences, header, row) {
-        Flipping::Kept(refusal) => refuse(header, refusal),
-        Flipping::Flips(sizes, from, merges) => {
-            flip_fenced(words, fences, sizes, from, row, merges);
+        Err(refusal) => refuse(header, refusal),
+        Ok(flip) => {
+            flip_fenced(words, fences, flip.sizes, flip.value, row, flip.merges);
             done(header)
         }
     }
@@ -76,11 +82,12 @@ pub fn update(
     ensures { Leaves (update_after header (memory_of words.old fences.old) row value) result words.new fences.new }
 {
     match decide_update(words, fences, header, row, value) {
-        Moving::Left(refusal) => refuse(header, refusal),
-        Moving::Same => done(header),
-        Moving::Moves(sizes, old, first, second) => {
-            flip_fenced(words, fences, sizes, old, row, first);
-            flip_fenced(words, fences, sizes, value, row, second);
+        Err(refusal) => refuse(header, refusal),
+        Ok(None) => done(header),
+        Ok(Some(moving)) => {
+            let sizes = moving.sizes;
+            flip_fenced(words, fences, sizes, moving.old, row, moving.old_merges);
+            flip_fenced(words, fences, sizes, value, row, moving.new_merges);
             done(header)
         }
     }

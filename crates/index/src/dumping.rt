@@ -12,7 +12,7 @@ use blocks::sizes::Sizes;
 use dump_spans::dump::give_rows;
 use fence_records::marking::mark_values;
 use groups::rows::ROW_LIMIT;
-use memory::entry::{Entry, enter_index};
+use memory::entry::enter_index;
 use memory::header::Header;
 
 // Dump of an index whose header and sizes hold.
@@ -28,7 +28,7 @@ fn dump_rows(
 {
     let mut rows = [255u8; ROW_LIMIT];
     if !mark_values(words, fences, &mut rows, header, sizes) {
-        return Answer::Refused(Refusal::Damaged);
+        return Err(Refusal::Damaged);
     }
     give_rows(&rows, out, header.issued)
 }
@@ -41,8 +41,6 @@ fn dump_rows(
 pub fn dump(words: &[u32], fences: &[Fence], out: &mut [u8], header: Header) -> Answer
     ensures { Gives (dump_outcome header (memory_of words.now fences.now) out.old) result out.new }
 {
-    match enter_index(words.len(), fences.len(), header) {
-        Entry::Stop(refusal) => Answer::Refused(refusal),
-        Entry::Ready(sizes) => dump_rows(words, fences, out, header, sizes),
-    }
+    let sizes = enter_index(words.len(), fences.len(), header)?;
+    dump_rows(words, fences, out, header, sizes)
 }

@@ -9,7 +9,6 @@ use block_read::fence::Fence;
 use blocks::sizes::Sizes;
 use fence_records::records::renew;
 use load_column::column::{enter_load, load_blocks};
-use memory::entry::Entry;
 use memory::header::{Changed, Header, done, header_for, no_header, refuse};
 
 // Writes the blocks of all values, and then their fences.
@@ -19,10 +18,8 @@ fn load_values(words: &mut [u32], fences: &mut [Fence], column: &[u8], header: H
         × (fences.new ≡ (loaded_in (sizes_of header) column.now header.values (memory_of words.old fences.old)).fences) }
 {
     load_blocks(words, column, sizes, header.values);
-    let mut value: u32 = 0;
-    while value < header.values {
+    for value in 0..header.values {
         renew(words, fences, sizes, value);
-        value = value + 1;
     }
 }
 
@@ -52,8 +49,8 @@ pub fn load(
         threshold,
         spacing,
     ) {
-        Entry::Stop(refusal) => refuse(no_header(), refusal),
-        Entry::Ready(sizes) => {
+        Err(refusal) => refuse(no_header(), refusal),
+        Ok(sizes) => {
             let header = header_for(rows, column.len(), values, threshold, spacing);
             load_values(words, fences, column, header, sizes);
             done(header)

@@ -1,150 +1,101 @@
-// Lines of the standard input. What is read waits in one buffer, and a line is a part of it.
-ghost use Rattle.std.specs.Prelude.{length};
-ghost use Rattle.fields.specs.Places.{Between};
+// Lines of the standard input.
+ghost use Rattle.std.specs.Prelude.{◌≤◌, IfOk, IfSome};
+ghost use Rattle.lines.specs.declared.input.TheConstants.{CAPACITY};
 
-use fields::places::{Field, find};
 use std::io::{self, Read, Stdin};
 
-// What was found at the last look: a line, a line that the buffer does not hold, nothing as yet, or the
-// end of the input.
+// The longest line, and its end.
+const CAPACITY: usize = 600001;
+
+// A line without its end, or one that the buffer does not hold.
 #[derive(Clone, Copy)]
-pub enum Found {
-    Line,
-    Long,
-    Nothing,
-    End,
+pub enum Line<'a> {
+    Whole(&'a [u8]),
+    TooLong,
 }
 
-// The line that was found last, from `from` to `to`; the bytes that wait after it, from `next` to `end`,
-// of which those up to `seen` hold no line end; whether a line is passed over that is too long.
-#[derive(Clone, Copy)]
-pub struct Waiting {
-    pub found: Found,
-    pub from: usize,
-    pub to: usize,
-    pub next: usize,
-    pub seen: usize,
-    pub end: usize,
-    pub skips: bool,
+// What is read and not yet given stands in the buffer from `next` to `end`; up to `seen` it holds no line end.
+// Where `skips`, it is the rest of a line that is too long.
+#[derive(Drop)]
+pub struct Input {
+    keyboard: Stdin,
+    bytes: [u8; CAPACITY],
+    next: usize,
+    seen: usize,
+    end: usize,
+    skips: bool,
+    ghost next_in: { next ≤ seen },
+    ghost seen_in: { seen ≤ end },
+    ghost end_in: { end ≤ CAPACITY },
 }
 
-// No line, and bytes that wait in front of the buffer.
-fn no_line(found: Found, seen: usize, end: usize, skips: bool) -> Waiting {
-    Waiting {
-        found: found,
-        from: 0,
-        to: 0,
-        next: 0,
-        seen: seen,
-        end: end,
-        skips: skips,
-    }
-}
-
-// Nothing is read.
-pub fn nothing_waiting() -> Waiting {
-    no_line(Found::Nothing, 0, 0, false)
-}
-
-pub fn has_ended(waiting: Waiting) -> bool {
-    let found = waiting.found;
-    match found {
-        Found::End => true,
-        _ => false,
-    }
-}
-
-// The end of a line that was passed over is that of one too long.
-fn kind_of(skips: bool) -> Found {
-    if skips { Found::Long } else { Found::Line }
-}
-
-// A line from `from` to `to`, or the end of one that is too long.
-fn line_found(waiting: Waiting, from: usize, to: usize, next: usize, end: usize) -> Waiting {
-    Waiting {
-        found: kind_of(waiting.skips),
-        from: from,
-        to: to,
-        next: next,
-        seen: next,
-        end: end,
-        skips: false,
-    }
-}
-
-// Moves the bytes that wait to the front of the buffer; answers their number.
-fn move_front(input: &mut [u8], from: usize, to: usize) -> usize {
-    if to <= from {
-        return 0;
-    }
-    if input.len() < to {
-        return 0;
-    }
-    if from == 0 {
-        return to;
-    }
-    let count = to - from;
-    for i in 0..count {
-        input[i] = input[from + i];
-    }
-    count
-}
-
-// Reads once, after the first `end` bytes; answers how many bytes there are then.
-fn read_after(mut keyboard: Stdin, input: &mut [u8], end: usize) -> io::Result<usize> {
-    if input.len() <= end {
-        return Ok(end);
-    }
-    let count = keyboard.read(&mut input[end..])?;
-    Ok(end + count)
-}
-
-// Reads more, of which nothing is looked at yet. A line that fills the whole buffer is passed over.
-fn read_more(keyboard: Stdin, input: &mut [u8], waiting: Waiting) -> io::Result<Waiting> {
-    let kept = move_front(input, waiting.next, waiting.end);
-    if input.len() <= kept {
-        return Ok(no_line(Found::Nothing, 0, 0, true));
-    }
-    let end = read_after(keyboard, input, kept)?;
-    if kept < end {
-        return Ok(no_line(Found::Nothing, kept, end, waiting.skips));
-    }
-    Ok(last_line(waiting, kept))
-}
-
-// The input has ended: what waits is the last line, which has no line end.
-fn last_line(waiting: Waiting, kept: usize) -> Waiting {
-    if !waiting.skips {
-        if kept == 0 {
-            return no_line(Found::End, 0, 0, false);
+impl Input {
+    pub fn new(keyboard: Stdin) -> Input {
+        Input {
+            keyboard,
+            bytes: [0; CAPACITY],
+            next: 0,
+            seen: 0,
+            end: 0,
+            skips: false,
         }
     }
-    line_found(waiting, 0, kept, 0, 0)
-}
 
-// Goes on to the next line, if it is read already; reads once if it is not.
-pub fn look_on(keyboard: Stdin, input: &mut [u8], waiting: Waiting) -> io::Result<Waiting> {
-    let end = waiting.end;
-    if waiting.seen < end {
-        let stop = find(input, waiting.seen, end, b'\n', true);
-        if stop < end {
-            return Ok(line_found(waiting, waiting.next, stop, stop + 1, end));
+    // The next line, for which it waits; none at the end of the input.
+    pub fn next_line(&mut self) -> io::Result<Option<Line<'_>>> {
+        match self.find_end()? {
+            Some(to) => Ok(Some(self.take_line(to))),
+            None => Ok(None),
         }
     }
-    read_more(keyboard, input, waiting)
-}
 
-// Where the line that was found stands in the buffer.
-pub fn line_of(input: &[u8], waiting: Waiting) -> Field
-    ensures { Between result.from (length input.now) result.to }
-{
-    let from = waiting.from;
-    let to = waiting.to;
-    if to < from {
-        return Field { from: 0, to: 0 };
+    // Where the next line ends. A proved loop has to end, and nothing says that the input does: the reads are
+    // counted up to a number that no run reaches.
+    fn find_end(&mut self) -> io::Result<Option<usize>>
+        ensures { IfOk result (λ found. IfSome found (λ to. (self.new.next ≤ to) × (to ≤ self.new.end))) }
+    {
+        for _ in 0..u64::MAX {
+            let ahead = &self.bytes[self.seen..self.end];
+            if let Some(len) = ahead.iter().position(|byte| *byte == b'\n') {
+                return Ok(Some(self.seen + len));
+            }
+            self.seen = self.end;
+            if !self.read_more()? {
+                // What waits is the last line, which has no line end; of one that is too long nothing may be left.
+                let is_line = 0 < self.end || self.skips;
+                return Ok(is_line.then_some(self.end));
+            }
+        }
+        Ok(None)
     }
-    if input.len() < to {
-        return Field { from: 0, to: 0 };
+
+    // Reads once, after what waits, which moves to the front; answers whether there was anything to read. A line that
+    // fills the buffer is passed over.
+    fn read_more(&mut self) -> io::Result<bool> {
+        self.bytes.copy_within(self.next..self.end, 0);
+        self.end -= self.next;
+        self.next = 0;
+        if self.end == CAPACITY {
+            self.end = 0;
+            self.skips = true;
+        }
+        self.seen = self.end;
+        let count = self.keyboard.read(&mut self.bytes[self.end..])?;
+        self.end += count;
+        Ok(0 < count)
     }
-    Field { from: from, to: to }
+
+    // The line up to `to`, after which the next one begins behind a line end.
+    fn take_line(&mut self, to: usize) -> Line<'_>
+        requires { (self.old.next ≤ to) × (to ≤ self.old.end) }
+    {
+        let from = self.next;
+        self.next = self.end.min(to + 1);
+        self.seen = self.next;
+        if self.skips {
+            self.skips = false;
+            return Line::TooLong;
+        }
+        Line::Whole(&self.bytes[from..to])
+    }
 }

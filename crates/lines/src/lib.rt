@@ -2,9 +2,8 @@
 // and what is answered. It knows nothing of the index's calls and memory.
 #![tactic(auto)]
 
-pub mod columns;
+pub mod failure;
 pub mod input;
 pub mod orders;
-pub mod put;
-pub mod say;
-pub mod verbs;
+pub mod output;
+pub mod replies;

@@ -1,237 +1,169 @@
 // What a line asks for: a command with its numbers.
-use crate::input::{Found, Waiting, line_of};
-use crate::verbs::{Verb, verb_of};
-use fields::numbers::Number;
-use fields::places::{Taken, is_over, last_number, last_word, next_field, take_number};
+use fields::line::Fields;
+use memory::header::Header;
 
-// A command: its numbers in the order of the line, and the place after them, where the column of a load,
-// the rows of a pack and the words of an unpack begin.
-#[derive(Clone, Copy)]
-pub struct Order {
-    pub verb: Verb,
-    pub first: u32,
-    pub second: u32,
-    pub third: u32,
-    pub fourth: u32,
-    pub fifth: u32,
-    pub rest: usize,
+// A command. The digits of a pack are one field, the bytes of a load's column and the words of an unpack one each:
+// what they spell is read later.
+#[derive(Drop)]
+pub enum Order<'a> {
+    Load(Load<'a>),
+    Change(Change),
+    Ask(Question),
+    Set(Setting),
+    Peek { at: u32, count: u32 },
+    PeekFence { at: u32, count: u32 },
+    Pack { digits: &'a [u8] },
+    Unpack { length: u32, words: Fields<'a> },
+    Help,
 }
 
-// What is to be done for a line, by what it needs: a load, a change of the index, a question to it, fence
-// records, or none of these; or nothing at all.
-#[derive(Clone, Copy)]
-pub enum Request {
-    Loads(Order),
-    Changes(Order),
-    Asks(Order),
-    Records(Order),
-    Other(Order),
-    Silent,
+// The numbers of a load, and its column.
+#[derive(Drop)]
+pub struct Load<'a> {
+    pub rows: u32,
+    pub values: u32,
+    pub threshold: u32,
+    pub spacing: u32,
+    pub column: Fields<'a>,
 }
 
-// Four numbers, and the place after them.
+// A change of the index.
 #[derive(Clone, Copy)]
-struct Four {
-    pub first: u32,
-    pub second: u32,
-    pub third: u32,
-    pub fourth: u32,
-    pub rest: usize,
+pub enum Change {
+    Insert { value: u32 },
+    Update { row: u32, value: u32 },
+    Delete { row: u32 },
+    Merge { value: u32 },
 }
 
+// A question to the index.
 #[derive(Clone, Copy)]
-enum Begun {
-    Numbers(Four),
-    Nothing,
+pub enum Question {
+    Query { value: u32 },
+    Value { row: u32 },
+    Dump,
+    Audit,
 }
 
-// A command with at most three numbers.
-fn order_of(verb: Verb, first: u32, second: u32, third: u32, rest: usize) -> Order {
-    Order {
-        verb: verb,
-        first: first,
-        second: second,
-        third: third,
-        fourth: 0,
-        fifth: 0,
-        rest: rest,
+// What is to be set: how much is lent, the header in use, or what stands in the memory.
+#[derive(Clone, Copy)]
+pub enum Setting {
+    Room { room: u32 },
+    Lend { words: u32, fences: u32 },
+    Header(Header),
+    Poke { at: u32, word: u32 },
+    PokeFence { at: u32, place: u32, first: u32 },
+}
+
+// Whether a line asks for nothing: an empty line, and one that begins with `#`.
+pub fn is_silent(line: &[u8]) -> bool {
+    line.is_empty() || line.starts_with(b"#")
+}
+
+// The command of a line; none where it is no command.
+pub fn order_in(line: &[u8]) -> Option<Order<'_>> {
+    let mut fields = Fields::new(line);
+    let name = fields.next()?;
+    let order = order_of(name, &mut fields)?;
+    match fields.next() {
+        None => Some(order),
+        Some(_) => None,
     }
 }
 
-// A line that is no command.
-fn no_order() -> Order {
-    order_of(Verb::Unknown, 0, 0, 0, 0)
-}
-
-// A command with no fields.
-fn bare(line: &[u8], at: usize, verb: Verb) -> Order {
-    if !is_over(line, at) {
-        return no_order();
-    }
-    order_of(verb, 0, 0, 0, 0)
-}
-
-// A command with one number.
-fn with_one(line: &[u8], at: usize, verb: Verb) -> Order {
-    let Number::Is(first) = last_number(line, at) else {
-        return no_order();
-    };
-    order_of(verb, first, 0, 0, 0)
-}
-
-// A command with two numbers.
-fn with_two(line: &[u8], at: usize, verb: Verb) -> Order {
-    let Taken::Number(first, rest) = take_number(line, at) else {
-        return no_order();
-    };
-    let Number::Is(second) = last_number(line, rest) else {
-        return no_order();
-    };
-    order_of(verb, first, second, 0, 0)
-}
-
-// `poke I WORD`.
-fn poke_order(line: &[u8], at: usize) -> Order {
-    let Taken::Number(first, rest) = take_number(line, at) else {
-        return no_order();
-    };
-    let Number::Is(second) = last_word(line, rest) else {
-        return no_order();
-    };
-    order_of(Verb::Poke, first, second, 0, 0)
-}
-
-// `pokefence I PLACE FIRST`.
-fn poke_fence_order(line: &[u8], at: usize) -> Order {
-    let Taken::Number(first, rest) = take_number(line, at) else {
-        return no_order();
-    };
-    let Taken::Number(second, last) = take_number(line, rest) else {
-        return no_order();
-    };
-    let Number::Is(third) = last_number(line, last) else {
-        return no_order();
-    };
-    order_of(Verb::PokeFence, first, second, third, 0)
-}
-
-// The first four numbers of `load R d T G ..` and of `header R n d T G`.
-fn take_four(line: &[u8], at: usize) -> Begun {
-    let Taken::Number(first, second_at) = take_number(line, at) else {
-        return Begun::Nothing;
-    };
-    let Taken::Number(second, third_at) = take_number(line, second_at) else {
-        return Begun::Nothing;
-    };
-    let Taken::Number(third, fourth_at) = take_number(line, third_at) else {
-        return Begun::Nothing;
-    };
-    let Taken::Number(fourth, rest) = take_number(line, fourth_at) else {
-        return Begun::Nothing;
-    };
-    Begun::Numbers(Four {
-        first: first,
-        second: second,
-        third: third,
-        fourth: fourth,
-        rest: rest,
+// The command of a name, with the fields that it takes.
+fn order_of<'a>(name: &[u8], fields: &mut Fields<'a>) -> Option<Order<'a>> {
+    Some(match name {
+        b"load" => Order::Load(load_of(fields)?),
+        b"query" => Order::Ask(Question::Query {
+            value: fields.number()?,
+        }),
+        b"value" => Order::Ask(Question::Value {
+            row: fields.number()?,
+        }),
+        b"dump" => Order::Ask(Question::Dump),
+        b"audit" => Order::Ask(Question::Audit),
+        b"peek" => Order::Peek {
+            at: fields.number()?,
+            count: fields.number()?,
+        },
+        b"peekfence" => Order::PeekFence {
+            at: fields.number()?,
+            count: fields.number()?,
+        },
+        b"pack" => Order::Pack {
+            digits: fields.next().unwrap_or(b""),
+        },
+        b"unpack" => Order::Unpack {
+            length: fields.number()?,
+            words: fields.rest(),
+        },
+        b"help" => Order::Help,
+        _ => return setting_order(name, fields),
     })
 }
 
-// `header R n d T G`.
-fn header_order(line: &[u8], at: usize) -> Order {
-    let Begun::Numbers(four) = take_four(line, at) else {
-        return no_order();
-    };
-    let Number::Is(fifth) = last_number(line, four.rest) else {
-        return no_order();
-    };
-    Order {
-        verb: Verb::Header,
-        first: four.first,
-        second: four.second,
-        third: four.third,
-        fourth: four.fourth,
-        fifth: fifth,
-        rest: 0,
-    }
+// `R d T G b b ..`.
+fn load_of<'a>(fields: &mut Fields<'a>) -> Option<Load<'a>> {
+    Some(Load {
+        rows: fields.number()?,
+        values: fields.number()?,
+        threshold: fields.number()?,
+        spacing: fields.number()?,
+        column: fields.rest(),
+    })
 }
 
-// `load R d T G ..`: the column is read later.
-fn load_order(line: &[u8], at: usize) -> Order {
-    let Begun::Numbers(four) = take_four(line, at) else {
-        return no_order();
-    };
-    Order {
-        verb: Verb::Load,
-        first: four.first,
-        second: four.second,
-        third: four.third,
-        fourth: four.fourth,
-        fifth: 0,
-        rest: four.rest,
-    }
+// A command that sets something; else a change.
+fn setting_order<'a>(name: &[u8], fields: &mut Fields<'_>) -> Option<Order<'a>> {
+    Some(Order::Set(match name {
+        b"room" => Setting::Room {
+            room: fields.number()?,
+        },
+        b"lend" => Setting::Lend {
+            words: fields.number()?,
+            fences: fields.number()?,
+        },
+        b"header" => Setting::Header(header_of(fields)?),
+        b"poke" => Setting::Poke {
+            at: fields.number()?,
+            word: fields.word()?,
+        },
+        b"pokefence" => Setting::PokeFence {
+            at: fields.number()?,
+            place: fields.number()?,
+            first: fields.number()?,
+        },
+        _ => return change_order(name, fields),
+    }))
 }
 
-// `unpack L ..`: the words are read later.
-fn unpack_order(line: &[u8], at: usize) -> Order {
-    let Taken::Number(first, rest) = take_number(line, at) else {
-        return no_order();
-    };
-    order_of(Verb::Unpack, first, 0, 0, rest)
+fn change_order<'a>(name: &[u8], fields: &mut Fields<'_>) -> Option<Order<'a>> {
+    Some(Order::Change(match name {
+        b"insert" => Change::Insert {
+            value: fields.number()?,
+        },
+        b"update" => Change::Update {
+            row: fields.number()?,
+            value: fields.number()?,
+        },
+        b"delete" => Change::Delete {
+            row: fields.number()?,
+        },
+        b"merge" => Change::Merge {
+            value: fields.number()?,
+        },
+        _ => return None,
+    }))
 }
 
-// The command of a line.
-fn order_in(line: &[u8]) -> Order {
-    let field = next_field(line, 0);
-    let from = field.from;
-    let at = field.to;
-    let verb = verb_of(&line[from..at]);
-    match verb {
-        Verb::Load => load_order(line, at),
-        Verb::Pack => order_of(verb, 0, 0, 0, at),
-        Verb::Unpack => unpack_order(line, at),
-        Verb::Header => header_order(line, at),
-        Verb::Poke => poke_order(line, at),
-        Verb::PokeFence => poke_fence_order(line, at),
-        Verb::Update | Verb::Lend | Verb::Peek | Verb::PeekFence => with_two(line, at, verb),
-        Verb::Audit | Verb::Dump | Verb::Help | Verb::Unknown => bare(line, at, verb),
-        _ => with_one(line, at, verb),
-    }
-}
-
-// What a command needs.
-fn request_for(order: Order) -> Request {
-    let verb = order.verb;
-    match verb {
-        Verb::Load => Request::Loads(order),
-        Verb::Insert | Verb::Update | Verb::Delete | Verb::Merge => Request::Changes(order),
-        Verb::Query | Verb::Value | Verb::Dump | Verb::Audit => Request::Asks(order),
-        Verb::PokeFence | Verb::PeekFence => Request::Records(order),
-        _ => Request::Other(order),
-    }
-}
-
-// The request of a line. An empty line and a line that begins with `#` ask for nothing.
-fn request_in(line: &[u8]) -> Request {
-    if line.len() == 0 {
-        return Request::Silent;
-    }
-    if line[0] == b'#' {
-        return Request::Silent;
-    }
-    request_for(order_in(line))
-}
-
-// The request of the line that was found, if one was.
-pub fn next_request(input: &[u8], waiting: Waiting) -> Request {
-    let found = waiting.found;
-    let line = line_of(input, waiting);
-    let from = line.from;
-    let to = line.to;
-    match found {
-        Found::Line => request_in(&input[from..to]),
-        Found::Long => Request::Other(no_order()),
-        _ => Request::Silent,
-    }
+// `R n d T G`.
+fn header_of(fields: &mut Fields<'_>) -> Option<Header> {
+    Some(Header {
+        rows: fields.number()?,
+        issued: fields.number()?,
+        values: fields.number()?,
+        threshold: fields.number()?,
+        spacing: fields.number()?,
+    })
 }

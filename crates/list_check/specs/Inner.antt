@@ -1,12 +1,17 @@
 -- Definitions that the contracts of inner functions alone cite.
-use Rattle.std.specs.Prelude.{◌≡◌, ℕ, ◌+◌, ◌*◌, ◌<◌, ◌≤◌, true, cond, List, map, length, take, slice_index}
+use Rattle.std.specs.Prelude.{Result, Ok, Err, ◌≡◌, ℕ, ◌+◌, ◌*◌, ◌<◌, ◌≤◌, true, cond, List, map, length, take, slice_index}
 use Rattle.words.specs.Words.{all_ones, run_of, decode, no_fill, well_formed, canonical}
-use Rattle.list_check.specs.declared.check.Checked.{Checked}
-use Rattle.list_check.specs.declared.check.Checked.TheVariants.{Whole, Bad}
+use Rattle.list_check.specs.declared.check.NotCanonical.{NotCanonical}
 
 -- the check of a list for L rows: canonical, or bad
-unfoldable pub check_of : List ℕ → ℕ → Checked
-check_of list rows = cond (canonical rows list) Whole Bad
+abbrev pub accepted : Result (Unit {0}) NotCanonical
+accepted = Ok tt
+
+abbrev pub rejected : Result (Unit {0}) NotCanonical
+rejected = Err (record {})
+
+unfoldable pub check_of : List ℕ → ℕ → Result (Unit {0}) NotCanonical
+check_of list rows = cond (canonical rows list) accepted rejected
 
 -- a word that is a literal whose bits are not all alike
 abbrev pub Mixed : ℕ → Type 0

@@ -4,7 +4,7 @@ ghost use Rattle.groups.specs.Rows.{row_limit, ones_in, bits_of, rows_of};
 ghost use Rattle.words.specs.Words.{run_of, span, group_in, decode, no_fill, keeps_form, bit_after, well_formed};
 ghost use Rattle.list_check.specs.Inner.{check_of, Mixed, AllMixed, PassedTo};
 
-use groups::rows::{groups_for, smaller};
+use groups::rows::groups_for;
 use std::num::{wrapping_add_u32, wrapping_sub_u32};
 use words::word::{ALL_ONES, fill_bit, fill_count, group_in, is_fill};
 
@@ -18,12 +18,9 @@ const FAULT: u32 = 0xFFFFFFFF;
 // How many words are looked at together for runs.
 const STRIDE: usize = 64;
 
-// Whether the list is canonical.
+// A list that is not the canonical one of any rows.
 #[derive(Clone, Copy)]
-pub enum Checked {
-    Whole,
-    Bad,
-}
+pub struct NotCanonical;
 
 // One of two numbers. Both are at hand, so that the pass over a list has no branch and is vectorised.
 fn pick(test: bool, yes: u32, no: u32) -> u32
@@ -72,10 +69,8 @@ fn all_mixed(words: &[u32]) -> bool
     ensures { result ≡ true → AllMixed words.now }
 {
     let mut marks: u32 = 0;
-    let mut i: usize = 0;
-    while i < words.len() {
-        marks |= run_mark(words[i]);
-        i += 1;
+    for word in words {
+        marks |= run_mark(*word);
     }
     marks >> 31 == 0
 }
@@ -86,15 +81,14 @@ fn mixed_front(list: &[u32]) -> usize
     requires { length list.now ≤ 4096 }
     ensures { PassedTo list.now 0 0 result }
 {
-    let mut i: usize = 0;
-    while i < list.len() {
-        let next = smaller(i + STRIDE, list.len());
-        if !all_mixed(&list[i..next]) {
-            return i;
+    let mut place: usize = 0;
+    for stride in list.chunks(STRIDE) {
+        if !all_mixed(stride) {
+            return place;
         }
-        i = next;
+        place += stride.len();
     }
-    i
+    place
 }
 
 // The pass over the words from a place on that has only mixed words before it: without an early end, so
@@ -113,17 +107,12 @@ fn pass_from(list: &[u32], from: usize) -> Shown
     let first = excess_of(word_before(list, from), list[from]);
     let mut gathered = first;
     let mut covered = first;
-    let mut i = from + 1;
-    while i < list.len() {
+    for i in from + 1..list.len() {
         let excess = excess_of(list[i - 1], list[i]);
         gathered |= excess;
         covered = wrapping_add_u32(covered, excess);
-        i += 1;
     }
-    Shown {
-        gathered: gathered,
-        covered: covered,
-    }
+    Shown { gathered, covered }
 }
 
 // Whether the words of a list keep the form and cover so many groups. Each word is read once, except those
@@ -143,10 +132,10 @@ fn keeps_form(list: &[u32], groups: usize) -> bool
 fn last_group(list: &[u32]) -> u32
     ensures { result ≡ group_in (run_of (slice_index list.now (length list.now - 1))) }
 {
-    if list.len() == 0 {
-        return 0;
+    match list.last() {
+        Some(word) => group_in(*word),
+        None => 0,
     }
-    group_in(list[list.len() - 1])
 }
 
 // Whether the lowest bits of a group are zero, `unused` of them.
@@ -159,21 +148,21 @@ fn tail_clear(group: u32, unused: usize) -> bool
 
 // The whole check of a list for `length` rows: one pass, whatever the words are, unless there are more
 // words than groups.
-pub fn check(list: &[u32], length: usize) -> Checked
+pub fn check(list: &[u32], length: usize) -> Result<(), NotCanonical>
     requires { length ≤ row_limit }
     ensures { result ≡ check_of list.now length }
 {
     let groups = groups_for(length);
     if groups < list.len() {
-        return Checked::Bad;
+        return Err(NotCanonical);
     }
     if !keeps_form(list, groups) {
-        return Checked::Bad;
+        return Err(NotCanonical);
     }
     if !tail_clear(last_group(list), groups * 31 - length) {
-        return Checked::Bad;
+        return Err(NotCanonical);
     }
-    Checked::Whole
+    Ok(())
 }
 
 // How many ones a word stands for.
@@ -193,10 +182,8 @@ pub fn ones_of(list: &[u32]) -> u32
     ensures { result ≡ ones_in (rows_of (decode list.now)) }
 {
     let mut ones: u32 = 0;
-    let mut i: usize = 0;
-    while i < list.len() {
-        ones += ones_in(list[i]);
-        i += 1;
+    for word in list {
+        ones += ones_in(*word);
     }
     ones
 }

@@ -1,4 +1,5 @@
 -- The walk to a later group goes on from the word that covers an earlier one. Assumes nothing.
+use Rattle.std.specs.Prelude.{Option, Some}
 use mathlib.Core.Path.{◌≡◌, refl, ◌∙◌, sym}
 use mathlib.Core.Logic.{⊎_elim}
 use mathlib.Core.List.{List}
@@ -9,8 +10,6 @@ use Rattle.words.specs.Words.{span}
 use Rattle.words.proofs.Forms.{run_at}
 use Rattle.list_walk.specs.Walk.{walk_to}
 use Rattle.list_walk.specs.declared.walk.Covering.{Covering}
-use Rattle.list_walk.specs.declared.walk.Walk.{Walk}
-use Rattle.list_walk.specs.declared.walk.Walk.TheVariants.{Covered}
 use Rattle.list_walk.proofs.walk.Steps.{walk_from, cover_at, starts, ends, covers, passes, not_covered, found_early, found_paid, counts_some, here_or_later}
 
 -- the same word, with some of its groups passed
@@ -18,9 +17,9 @@ abbrev nearer : Covering → ℕ → Covering
 nearer c skip = record { word = c.word; beyond = c.beyond - skip; opened = c.opened }
 
 -- what the walk to a group `skip` groups further on finds: the same word, or what it finds from the next word on
-abbrev GoesOn : List ℕ → ℕ → Covering → ℕ → Walk → Type 0
+abbrev GoesOn : List ℕ → ℕ → Covering → ℕ → Option Covering → Type 0
 GoesOn list budget c skip walk =
-    (skip ≤ c.beyond → walk ≡ Covered (nearer c skip)) × (skip ≡ c.beyond + 1 → walk ≡ walk_from list budget c.opened 0)
+    (skip ≤ c.beyond → walk ≡ Some (nearer c skip)) × (skip ≡ c.beyond + 1 → walk ≡ walk_from list budget c.opened 0)
 
 module _ (list : List ℕ) (budget skip : ℕ) where
   -- the word at place i covers the group
@@ -35,7 +34,7 @@ module _ (list : List ℕ) (budget skip : ℕ) where
         passes list budget i (passed + skip) h b (λ e. omega arith) (omega arith) ∙ rw none refl,
   )
 
-  onward : (left i passed : ℕ) (c : Covering) → length list ≡ i + left → walk_from list budget i passed ≡ Covered c
+  onward : (left i passed : ℕ) (c : Covering) → length list ≡ i + left → walk_from list budget i passed ≡ Some c
       → GoesOn list budget c skip (walk_from list budget i (passed + skip))
   onward zero i passed c l e = absurd (not_covered (sym (ends list budget i passed (omega arith)) ∙ e))
   onward (suc left) i passed c l e =
@@ -49,7 +48,7 @@ module _ (list : List ℕ) (budget skip : ℕ) where
       rw (passes list budget i (passed + skip) h b (counts_some list budget i passed c h e) (omega (arith, later.0)), far) on)
       (here_or_later list budget i passed c h e)
 
-module _ (list : List ℕ) (first group budget : ℕ) (c : Covering) (e : walk_to list first group budget ≡ Covered c) (skip : ℕ) where
+module _ (list : List ℕ) (first group budget : ℕ) (c : Covering) (e : walk_to list first group budget ≡ Some c) (skip : ℕ) where
   goes_on : GoesOn list budget c skip (walk_to list first (group + skip) budget)
   goes_on =
       let early = found_early list first group budget c e in
@@ -58,7 +57,7 @@ module _ (list : List ℕ) (first group budget : ℕ) (c : Covering) (e : walk_t
       (onward list budget skip (length list) 0 (group - first) c (omega arith) (sym (starts list first group budget early) ∙ e))
 
   -- THEOREM: a group that the same word covers is found there
-  pub on_same : skip ≤ c.beyond → walk_to list first (group + skip) budget ≡ Covered (nearer c skip)
+  pub on_same : skip ≤ c.beyond → walk_to list first (group + skip) budget ≡ Some (nearer c skip)
   on_same h = goes_on.0 h
 
   -- THEOREM: the group after those that the word covers is the first of what is found from the next word on

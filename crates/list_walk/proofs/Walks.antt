@@ -1,4 +1,5 @@
 -- Laws of the walk to the word that covers a group: what it finds, and when it finds. Assumes nothing.
+use Rattle.std.specs.Prelude.{Option, Some}
 use mathlib.Core.Path.{◌≡◌, refl, ◌∙◌, ap, sym, subst}
 use mathlib.Core.Logic.{⊎_elim, by_cases}
 use mathlib.Core.List.{List}
@@ -13,8 +14,6 @@ use Rattle.words.proofs.Forms.{run_at, length_split, length_from, length_upto, d
 use Rattle.lists.specs.Inner.{Filled}
 use Rattle.list_walk.specs.Walk.{walk_to}
 use Rattle.list_walk.specs.declared.walk.Covering.{Covering}
-use Rattle.list_walk.specs.declared.walk.Walk.{Walk}
-use Rattle.list_walk.specs.declared.walk.Walk.TheVariants.{Covered}
 use Rattle.lists.proofs.Covering.{group_at, group_rest, length_rest, filled_drop}
 use Rattle.list_walk.proofs.walk.Steps.{walk_from, cover_at, starts, ends, covers, passes, not_covered, found_early, found_paid, here_or_later}
 
@@ -52,7 +51,7 @@ module _ (list : List ℕ) (first group budget : ℕ) (early : first ≤ group) 
             rw there (group_at list i before refl (skip + k) l (omega arith));
       }
 
-  reached : (left i skip : ℕ) (c : Covering) → length list ≡ i + left → Skips i skip → walk_from list budget i skip ≡ Covered c
+  reached : (left i skip : ℕ) (c : Covering) → length list ≡ i + left → Skips i skip → walk_from list budget i skip ≡ Some c
       → Found list first group budget c
   reached zero i skip c l s e = absurd (not_covered (sym (ends list budget i skip (omega arith)) ∙ e))
   reached (suc left) i skip c l s e =
@@ -63,31 +62,31 @@ module _ (list : List ℕ) (first group budget : ℕ) (early : first ≤ group) 
       (here_or_later list budget i skip c h e)
 
 -- THEOREM: a walk that finds a word has found, within its budget, the one that covers the group sought
-pub found : (list : List ℕ) (first group budget : ℕ) (c : Covering) → walk_to list first group budget ≡ Covered c → Found list first group budget c
+pub found : (list : List ℕ) (first group budget : ℕ) (c : Covering) → walk_to list first group budget ≡ Some c → Found list first group budget c
 found list first group budget c e =
     let early = found_early list first group budget c e in
     reached list first group budget early (length list) 0 (group - first) c (omega arith) (omega arith) (sym (starts list first group budget early) ∙ e)
 
 -- the word found stands for the group sought
-pub found_group : (list : List ℕ) (first group budget : ℕ) (c : Covering) → walk_to list first group budget ≡ Covered c
+pub found_group : (list : List ℕ) (first group budget : ℕ) (c : Covering) → walk_to list first group budget ≡ Some c
     → group_in (run_of c.word) ≡ get_or (decode list) (group - first) 0
 found_group list first group budget c e = sym (rw add-zero at ((found list first group budget c e).same 0 zero-le))
 
 -- THEOREM: a walk from the word at place i finds the group of the whole list
 pub found_from : (list : List ℕ) (i first group budget : ℕ) (c : Covering) → first ≡ length (decode (take i list))
-    → walk_to (drop i list) first group budget ≡ Covered c → group_in (run_of c.word) ≡ get_or (decode list) group 0
+    → walk_to (drop i list) first group budget ≡ Some c → group_in (run_of c.word) ≡ get_or (decode list) group 0
 found_from list i first group budget c f e =
     found_group (drop i list) first group budget c e ∙ group_rest list i first f group (found (drop i list) first group budget c e).started
 
 -- ---- when it is found
 
 -- a walk that finds its word, with at most so many words opened
-pub record Finds (walk : Walk) (most : ℕ) : Type 0 where
+pub record Finds (walk : Option Covering) (most : ℕ) : Type 0 where
   pub covering : Covering
-  pub found : walk ≡ Covered covering
+  pub found : walk ≡ Some covering
   pub few : covering.opened ≤ most
 
-finds_same : {walk other : Walk} {most more : ℕ} → walk ≡ other → most ≤ more → Finds other most → Finds walk more
+finds_same : {walk other : Option Covering} {most more : ℕ} → walk ≡ other → most ≤ more → Finds other most → Finds walk more
 finds_same e h finds = record { covering = finds.covering; found = e ∙ finds.found; few = omega arith }
 
 module _ (list : List ℕ) (budget : ℕ) (filled : Filled list) where

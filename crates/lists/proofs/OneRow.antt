@@ -12,14 +12,14 @@ use lib.Seq.{sets, get_or_at, take_at}
 use borrow.Author.Tests.{eqb-true, eqb-false}
 use Rattle.groups.specs.Rows.{row_at}
 use Rattle.words.specs.Words.{Run.fill, all_ones, word_of, decode, encode}
-use Rattle.words.specs.Inner.{uniform, Takes, written, last_words}
+use Rattle.words.specs.Inner.{uniform, no_run, last_words, Fits, Follows, Closes}
 use Rattle.words.specs.declared.writer.Pending.{Pending}
-use Rattle.words.specs.declared.writer.Step.{Step}
+use Rattle.words.specs.declared.writer.ListWriter.{ListWriter}
 use Rattle.groups.proofs.Group.{power_bit, power_other}
 use Rattle.groups.proofs.Groups.{get_or-zeros}
 use Rattle.words.proofs.Round.{Groups, decode-encode}
 use Rattle.words.proofs.Runs.{ends_run, last-run, literal_word}
-use Rattle.words.proofs.Writing.{Writing, step_on, ends}
+use Rattle.words.proofs.Writing.{Writing, begins, push_fits, push_on, closes, ends}
 use Rattle.lists.specs.Inner.{Covers, one_row, Packs}
 use Rattle.lists.specs.declared.one_row.Short.{Short}
 use Rattle.lists.proofs.Covering.{encode_covers}
@@ -95,27 +95,58 @@ module _ (groups row : ℕ) where
   unfolding one_row
   few-one_row = few-lone (row / 31) (2 ^ (30 - row % 31)) (groups - row / 31 - 1) mask_some (λ e. omega (arith, mask_below))
 
--- ---- the steps that write it
+-- ---- the groups that are taken in
 
-module _ (groups row : ℕ) (words : List ℕ) (room : length (encode (one_row groups row)) ≤ length words) where
-  -- the zeros before the row are pending, and its group comes
-  pub literal_on : (step : Step) → Takes (record { bit = 0; count = row / 31 }) (replicate 1 (2 ^ (30 - row % 31))) step
-      → Writing (one_row groups row) (uniform 0 (groups - row / 31 - 1)) words (sets words 0 (written step)) (0 + step.words) step.pending
+module _ (groups row : ℕ) (words : List ℕ) (room : length (encode (one_row groups row)) ≤ length words) (inside : row / 31 < groups) (limit : groups ≤ 4096)
+    (none : ListWriter) (b : (none.out.now ≡ words) × (none.written ≡ 0) × (none.pending ≡ no_run)) where
+  begun : Writing (one_row groups row) (one_row groups row) words none.out.now none.written none.pending
+  begun = rw (b.0, b.1, b.2) (begins (one_row groups row) words)
+
+  no_count : none.pending.count ≡ 0
+  no_count = ap (λ (pending : Pending). pending.count) b.2
+
+  -- the zeros before the row come first
+  pub before_fit : Fits (uniform 0 (row / 31)) none
   unfolding one_row
-  literal_on step t = step_on begun room (replicate 1 (2 ^ (30 - row % 31))) (uniform 0 (groups - row / 31 - 1)) step refl t
-    where
-      begun : Writing (one_row groups row) (2 ^ (30 - row % 31) ∷ uniform 0 (groups - row / 31 - 1)) words words 0 (record { bit = 0; count = row / 31 })
-      begun = record { is_bit = omega arith; within = omega arith; same = refl; whole = refl; kept = refl }
+  before_fit = push_fits begun room (uniform 0 (row / 31)) _ refl (omega (arith, no_count, length-replicate {A = ℕ} (row / 31) 0))
 
-  -- no group is left
-  pub packs : {rest out : List ℕ} {at : ℕ} {pending : Pending} → Writing (one_row groups row) rest words out at pending → rest ≡ []
-      → Packs (one_row groups row) (record { words = sets out at (last_words pending); count = at + length (last_words pending) })
-  packs w e =
-      let end = ends w room e in
-      record {
-        few = omega (arith, end.0, few-one_row groups row);
-        list = rw end.1 (take_at (encode (one_row groups row)) _ _ (sym end.0));
-      }
+  -- then its group
+  module _ {before : ListWriter} (f : Follows (uniform 0 (row / 31)) none before) (group : ℕ) (mask : group ≡ 2 ^ (30 - row % 31)) where
+    before_on : Writing (one_row groups row) (group ∷ uniform 0 (groups - row / 31 - 1)) words before.out.now before.written before.pending
+    unfolding one_row
+    before_on = rw mask (push_on begun room (uniform 0 (row / 31)) _ refl f)
+
+    few_before : before.pending.count ≤ row / 31
+    few_before = omega (arith, no_count, f.grows, length-replicate {A = ℕ} (row / 31) 0)
+
+    pub group_fits : Fits (group ∷ []) before
+    group_fits = push_fits before_on room (group ∷ []) _ refl (omega (arith, few_before))
+
+    -- and then the zeros after it
+    module _ {with-group : ListWriter} (g : Follows (group ∷ []) before with-group) where
+      group_on : Writing (one_row groups row) (uniform 0 (groups - row / 31 - 1)) words with-group.out.now with-group.written with-group.pending
+      group_on = push_on before_on room (group ∷ []) _ refl g
+
+      pub after_fit : Fits (uniform 0 (groups - row / 31 - 1)) with-group
+      after_fit =
+          push_fits group_on room (uniform 0 (groups - row / 31 - 1)) [] (sym (append-nil _))
+          (omega (arith, few_before, g.grows, length-replicate {A = ℕ} (groups - row / 31 - 1) 0))
+
+      module _ {all : ListWriter} (h : Follows (uniform 0 (groups - row / 31 - 1)) with-group all) where
+        all_on : Writing (one_row groups row) [] words all.out.now all.written all.pending
+        all_on = push_on group_on room (uniform 0 (groups - row / 31 - 1)) [] (sym (append-nil _)) h
+
+        pub all_close : Closes all
+        all_close = closes all_on room refl (omega (arith, few_before, g.grows, h.grows, length-replicate {A = ℕ} (groups - row / 31 - 1) 0))
+
+        pub packs : {out : List ℕ} → sets all.out.now all.written (last_words all.pending) ≡ out
+            → Packs (one_row groups row) (record { words = out; count = all.written + length (last_words all.pending) })
+        packs e =
+            let end = ends all_on room refl in
+            record {
+              few = omega (arith, end.0, few-one_row groups row);
+              list = rw (← e, end.1) (take_at (encode (one_row groups row)) _ _ (sym end.0));
+            }
 
 -- ---- reading it back
 

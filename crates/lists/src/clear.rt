@@ -13,13 +13,10 @@ pub fn clear_from(list: &[u32], groups: u32, row: u32) -> bool
     ensures { result ≡ clear_from row (decode list.now) }
 {
     let mut end = groups;
-    let mut i = list.len();
-    while 0 < i {
-        i -= 1;
-        let word = list[i];
+    for &word in list.iter().rev() {
         let group = group_in(word);
         if group != 0 {
-            return 31 * end <= row + u32::trailing_zeros(group);
+            return 31 * end <= row + group.trailing_zeros();
         }
         end -= span_of(word);
     }

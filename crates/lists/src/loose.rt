@@ -12,10 +12,8 @@ fn turn_over_each(groups: &mut [u32], group: u32)
     requires { Groups groups.old × (group < 0x80000000) }
     ensures { groups.new ≡ combined exclusive groups.old (replicate (length groups.old) group) }
 {
-    let mut i: usize = 0;
-    while i < groups.len() {
-        groups[i] ^= group;
-        i += 1;
+    for turned in groups.iter_mut() {
+        *turned ^= group;
     }
 }
 
@@ -46,10 +44,8 @@ pub fn turn_over_groups(list: &[u32], groups: &mut [u32])
         ++ drop (length (decode list.now)) groups.old }
 {
     let mut at: usize = 0;
-    let mut i: usize = 0;
-    while i < list.len() {
-        at = turn_over_word(groups, at, list[i]);
-        i += 1;
+    for &word in list {
+        at = turn_over_word(groups, at, word);
     }
 }
 
@@ -60,11 +56,9 @@ pub fn take_rows(taken: &mut [u32], groups: &[u32]) -> bool
     ensures { (result ≡ apart taken.old groups.now) × (taken.new ≡ combined either taken.old groups.now) }
 {
     let mut twice: u32 = 0;
-    let mut i: usize = 0;
-    while i < groups.len() {
-        twice |= taken[i] & groups[i];
-        taken[i] |= groups[i];
-        i += 1;
+    for (i, &group) in groups.iter().enumerate() {
+        twice |= taken[i] & group;
+        taken[i] |= group;
     }
     twice == 0
 }

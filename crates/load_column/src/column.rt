@@ -1,7 +1,6 @@
 // The column of a load: its bytes, its refusals, and the blocks that it makes.
 ghost use Rattle.std.specs.Prelude.{◌≡◌, ℕ, ◌*◌, ◌≤◌, length, nat_le};
 ghost use Rattle.blocks.specs.Sizes.{value_room, block_size};
-ghost use Rattle.blocks.specs.Inner.{Limits};
 ghost use Rattle.memory.specs.Entry.{valid_byte, valid_column};
 ghost use Rattle.memory.specs.Inner.{entered_load};
 ghost use Rattle.load_column.specs.Inner.{packed_words, loaded_words};
@@ -13,19 +12,18 @@ use groups::rows::groups_for;
 use load_list::listing::pack_block;
 use memory::entry::{Entry, ask, enter_index};
 use memory::header::header_for;
-use std::num::wrapping_add_u8;
 
 // A byte and 1, where 255 becomes 0: it is at most d just where the byte is below d or is 255.
 fn following(byte: u8) -> u8
     ensures { (values : ℕ) → nat_le result values ≡ valid_byte values byte }
 {
-    wrapping_add_u8(byte, 1)
+    byte.wrapping_add(1)
 }
 
 fn at_most(byte: u8, values: u32) -> bool
     ensures { result ≡ nat_le byte values }
 {
-    byte as u32 <= values
+    u32::from(byte) <= values
 }
 
 // Whether each byte is below d or is 255. The largest of the bytes that follow them decides; without an
@@ -33,14 +31,9 @@ fn at_most(byte: u8, values: u32) -> bool
 fn column_valid(column: &[u8], values: u32) -> bool
     ensures { result ≡ valid_column values column.now }
 {
-    let mut largest: u8 = 0;
-    let mut i: usize = 0;
-    while i < column.len() {
-        let next = following(column[i]);
-        if largest < next {
-            largest = next;
-        }
-        i += 1;
+    let mut largest = 0;
+    for byte in column {
+        largest = largest.max(following(*byte));
     }
     at_most(largest, values)
 }
@@ -65,24 +58,23 @@ pub fn enter_load(
 
 // Packs the block of each value from the groups that stand first in its V's room.
 fn pack_blocks(words: &mut [u32], sizes: Sizes, values: u32, filled: usize)
-    requires { Limits sizes × (values * block_size sizes ≤ length words.old) × (filled ≤ value_room sizes) }
+    requires { (values * block_size sizes ≤ length words.old) × (filled ≤ value_room sizes) }
     ensures { words.new ≡ packed_words sizes filled values words.old }
 {
-    let mut at: usize = 0;
-    let mut value: u32 = 0;
-    while value < values {
-        let end = at + sizes.block;
-        pack_block(&mut words[at..end], sizes, filled);
-        at = end;
-        value += 1;
+    let block = sizes.block;
+    for value in 0..values as usize {
+        let at = value * block;
+        pack_block(&mut words[at..at + block], sizes, filled);
     }
 }
 
 // Writes the blocks of all values: one pass over the column, and one over the groups of each value.
 pub fn load_blocks(words: &mut [u32], column: &[u8], sizes: Sizes, values: u32)
-    requires { Limits sizes × (values * block_size sizes ≤ length words.old) × (values ≤ 64) × (length column.now ≤ sizes.rows) }
+    requires { (values * block_size sizes ≤ length words.old) × (values ≤ 64) × (length column.now ≤ sizes.rows) }
     ensures { words.new ≡ loaded_words sizes column.now values words.old }
 {
+    // A read field tells the limits of the sizes, which the calls below rest on.
+    let _ = &sizes.block;
     spread(words, column, sizes, values);
     pack_blocks(words, sizes, values, groups_for(column.len()));
 }

@@ -1,18 +1,16 @@
 // The groups of all values in one pass over a column: 31 rows are gathered aside, a group for each value,
 // and each group is put into its value's block, where the value's list will stand. The blocks are cleared
 // first, so that 31 rows of one value are one word.
-ghost use Rattle.std.specs.Prelude.{◌≡◌, ℕ, ◌+◌, ◌*◌, ◌^◌, ◌<◌, ◌≤◌, ◌++◌, length, drop, replicate, if◌then◌else◌, nat_eq, slice_index, slice_set};
+ghost use Rattle.std.specs.Prelude.{◌≡◌, ℕ, ◌+◌, ◌*◌, ◌^◌, ◌<◌, ◌≤◌, length, if◌then◌else◌, nat_eq, slice_index, slice_set};
 ghost use Rattle.groups.specs.Rows.{group_of};
 ghost use Rattle.words.specs.Words.{all_ones};
 ghost use Rattle.blocks.specs.Sizes.{block_size};
-ghost use Rattle.blocks.specs.Inner.{Limits};
 ghost use Rattle.load_list.specs.Column.{rows_with};
-ghost use Rattle.load_list.specs.Inner.{all_alike};
 ghost use Rattle.load_column.specs.Inner.{Clear, Placed, Spread, one_byte};
 
 use blocks::layout::LENGTHS;
 use blocks::sizes::Sizes;
-use groups::rows::smaller;
+use load_list::listing::all_alike;
 use words::word::ALL_ONES;
 
 // The most values of an index.
@@ -23,7 +21,7 @@ fn add_row(groups: &mut [u32], byte: u8, mask: u32)
     requires { byte < length groups.old → slice_index groups.old byte + mask < 2 ^ 32 }
     ensures { groups.new ≡ slice_set groups.old byte (slice_index groups.old byte + mask) }
 {
-    let value = byte as usize;
+    let value = usize::from(byte);
     if value < groups.len() {
         groups[value] += mask;
     }
@@ -35,11 +33,9 @@ fn gather_groups(rows: &[u8], groups: &mut [u32])
     ensures { (value : ℕ) → value < length groups.old → slice_index groups.new value ≡ group_of 31 (rows_with value rows.now) }
 {
     let mut mask: u32 = 0x80000000;
-    let mut i: usize = 0;
-    while i < rows.len() {
-        mask = mask / 2;
-        add_row(groups, rows[i], mask);
-        i += 1;
+    for row in rows {
+        mask /= 2;
+        add_row(groups, *row, mask);
     }
 }
 
@@ -48,28 +44,9 @@ fn put_groups(words: &mut [u32], groups: &[u32], values: usize, block: usize, pl
     requires { (values ≤ length groups.now) × (place < block) × (values * block ≤ length words.old) }
     ensures { Placed values block place (λ value. slice_index groups.now value) words.old words.new }
 {
-    let mut at = place;
-    let mut value: usize = 0;
-    while value < values {
-        words[at] = groups[value];
-        at += block;
-        value += 1;
+    for (value, group) in groups[..values].iter().enumerate() {
+        words[value * block + place] = *group;
     }
-}
-
-// Whether sixteen rows all hold the byte. It looks at all of them: without an early end the loop is
-// vectorised.
-fn sixteen_alike(rows: &[u8], byte: u8) -> bool
-    requires { length rows.now ≡ 16 }
-    ensures { result ≡ all_alike byte rows.now }
-{
-    let mut difference: u8 = 0;
-    let mut i: usize = 0;
-    while i < 16 {
-        difference |= rows[i] ^ byte;
-        i += 1;
-    }
-    difference == 0
 }
 
 // Whether some rows are a whole group and hold one byte. The sixteen rows behind the first and the last
@@ -81,10 +58,7 @@ fn one_byte(rows: &[u8]) -> bool
         return false;
     }
     let byte = rows[0];
-    if !sixteen_alike(&rows[1..17], byte) {
-        return false;
-    }
-    sixteen_alike(&rows[15..31], byte)
+    all_alike(&rows[1..17], byte) && all_alike(&rows[15..31], byte)
 }
 
 // Puts the groups of 31 rows that hold one byte where 0 stands; a byte that is no value has no group.
@@ -92,7 +66,7 @@ fn put_whole(words: &mut [u32], byte: u8, values: usize, block: usize, place: us
     requires { (place < block) × (values * block ≤ length words.old) × Clear values block place words.old }
     ensures { Placed values block place (λ value. (if nat_eq byte value then all_ones else 0)) words.old words.new }
 {
-    let value = byte as usize;
+    let value = usize::from(byte);
     if value < values {
         words[value * block + place] = ALL_ONES;
     }
@@ -112,31 +86,14 @@ fn spread_group(words: &mut [u32], rows: &[u8], values: usize, block: usize, pla
     put_groups(words, &groups, values, block, place);
 }
 
-// Writes 0 over the first words.
-fn clear(words: &mut [u32], count: usize)
-    requires { count ≤ length words.old }
-    ensures { words.new ≡ replicate count 0 ++ drop count words.old }
-{
-    let mut i: usize = 0;
-    while i < count {
-        words[i] = 0;
-        i += 1;
-    }
-}
-
 // Puts all groups of a column into the blocks, from the first word of V's room on.
 pub fn spread(words: &mut [u32], column: &[u8], sizes: Sizes, values: u32)
-    requires { Limits sizes × (values * block_size sizes ≤ length words.old) × (values ≤ 64) × (length column.now ≤ sizes.rows) }
+    requires { (values * block_size sizes ≤ length words.old) × (values ≤ 64) × (length column.now ≤ sizes.rows) }
     ensures { Spread sizes.block values column.now words.old words.new }
 {
     let block = sizes.block;
-    clear(words, values as usize * block);
-    let mut place: usize = LENGTHS;
-    let mut at: usize = 0;
-    while at < column.len() {
-        let end = smaller(at + 31, column.len());
-        spread_group(words, &column[at..end], values as usize, block, place);
-        place += 1;
-        at = end;
+    words[..values as usize * block].fill(0);
+    for (group, rows) in column.chunks(31).enumerate() {
+        spread_group(words, rows, values as usize, block, LENGTHS + group);
     }
 }

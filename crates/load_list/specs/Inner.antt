@@ -1,13 +1,11 @@
 -- Definitions that the contracts of inner functions alone cite: a list that is written group by group, and the block that is packed from its groups.
-use Rattle.std.specs.Prelude.{◌≡◌, Bool, true, not, cond, ◌&&◌, List, [], ◌∷◌, ◌++◌, ℕ, ◌+◌, ◌<◌, ◌≤◌, eqb, length, get_or, take}
-use Rattle.std.proofs.lemmas.List.Edits.{sets}
+use Rattle.std.specs.Prelude.{◌≡◌, Bool, true, not, cond, ◌&&◌, List, [], ◌∷◌, ℕ, ◌+◌, ◌≤◌, eqb, get_or, take}
 use Rattle.words.specs.Words.{fill, word_of, all_ones, encode}
-use Rattle.words.specs.Inner.{after}
 use Rattle.words.specs.declared.writer.Pending.{Pending}
 use Rattle.words.specs.declared.writer.Step.{Step}
+use Rattle.words.specs.declared.writer.ListWriter.{ListWriter}
 use Rattle.blocks.specs.Block.{value_words, padded, block_of, zero_list}
 use Rattle.blocks.specs.declared.sizes.Sizes.{Sizes}
-use Rattle.load_list.specs.declared.listing.Listed.{Listed}
 
 -- ---- a list that is written group by group
 
@@ -34,22 +32,9 @@ abbrev pub none_full : List ℕ → Bool
 none_full [] = true
 none_full (group ∷ groups) = not (eqb group all_ones) && none_full groups
 
--- some groups can be taken in: the words of these and of those behind them fit, and 0 stands from there on
-pub record Fits (pending : Pending) (groups : List ℕ) (at : ℕ) (out : List ℕ) : Type 0 where
-  pub is_bit : pending.bit < 2
-  pub few : pending.count + length groups < 0x40000000
-  pub behind : List ℕ
-  pub room : at + length (encode (after pending (groups ++ behind))) ≤ length out
-  pub clear : (place : ℕ) → at ≤ place → get_or out place 0 ≡ 0
-
--- some groups were taken in: whatever groups follow, the words of all are those written and then those of what is pending
-pub record Follows (pending : Pending) (groups : List ℕ) (at : ℕ) (out : List ℕ) (listed : Listed) (left : List ℕ) : Type 0 where
-  pub words : List ℕ
-  pub law : (rest : List ℕ) → encode (after pending (groups ++ rest)) ≡ words ++ encode (after listed.pending rest)
-  pub is_bit : listed.pending.bit < 2
-  pub grows : listed.pending.count ≤ pending.count + length groups
-  pub counts : listed.written ≡ at + length words
-  pub writes : left ≡ sets out at words
+-- 0 stands behind the words of a list
+pub record Clear (list : ListWriter) : Type 0 where
+  pub behind : (place : ℕ) → list.written ≤ place → get_or list.out.now place 0 ≡ 0
 
 -- ---- the block that is packed from its groups
 

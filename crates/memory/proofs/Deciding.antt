@@ -1,4 +1,5 @@
 -- Checks in their order: what is asked of an entry, and whatever else reads checks so, take the first that applies; and what an entry that is ready says. Assumes nothing.
+use Rattle.std.specs.Prelude.{Result, Ok, Err}
 use mathlib.Core.Path.{◌≡◌, refl, sym, ap, ◌∙◌}
 use mathlib.Core.Bool.{true, false, and-eq-true_iff}
 use mathlib.Core.List.{List, [], ◌∷◌, ◌++◌}
@@ -17,23 +18,25 @@ use Rattle.memory.specs.Entry.{bad_header, small}
 use Rattle.memory.specs.Inner.{Planned, decided, asked_all, entered_index, entered}
 use Rattle.memory.specs.Outcomes.{After, change}
 use Rattle.memory.specs.declared.header.Header.{Header}
-use Rattle.memory.specs.declared.entry.Entry.TheVariants.{Ready, Stop}
 
 -- ---- an entry
 
 -- a stop stays, whatever is asked behind it
-stays : (refusal : Refusal) (checks : List Check) → asked_all (Stop refusal) checks ≡ Stop refusal
+stays : (refusal : Refusal) (checks : List Check) → asked_all (Err refusal) checks ≡ Err refusal
 stays refusal [] = refl
 stays refusal (check ∷ checks) = stays refusal checks
 
-pub not_ready : {sizes : Sizes} {refusal : Refusal} → Ready sizes ≡ Stop refusal → ⊥
+pub not_ready : {A : Type 0} {done : A} {refusal : Refusal} → Ok done ≡ Err refusal → ⊥
 not_ready e = let z : ◌≡◌ {A = ℕ} 0 1 = cc in omega arith
 
-pub same_reason : {refusal first : Refusal} → Stop refusal ≡ Stop first → first ≡ refusal
+pub same_reason : {A : Type 0} {refusal first : Refusal} → ◌≡◌ {A = Result A Refusal} (Err refusal) (Err first) → first ≡ refusal
 same_reason e = cc
 
+same_decision : {A : Type 0} {decision done : A} → ◌≡◌ {A = Result A Refusal} (Ok decision) (Ok done) → decision ≡ done
+same_decision e = cc
+
 -- what is ready has the sizes that were asked with, and no check refuses
-pub ready_passes : (given sizes : Sizes) (checks : List Check) → Ready sizes ≡ asked_all (Ready given) checks → (sizes ≡ given) × Passes checks
+pub ready_passes : (given sizes : Sizes) (checks : List Check) → Ok sizes ≡ asked_all (Ok given) checks → (sizes ≡ given) × Passes checks
 ready_passes given sizes [] e = (cc, tt)
 ready_passes given sizes (refusal when true ∷ checks) e = absurd (not_ready (e ∙ stays refusal checks))
 ready_passes given sizes (refusal when false ∷ checks) e = let behind = ready_passes given sizes checks e in (behind.0, (refl, behind.1))
@@ -52,7 +55,7 @@ module _ {A : Type 0} {read : List Check → A} {refused : Refusal → A} (refus
   passes_read (refusal when test ∷ checks) p = rw p.0 (refuses.goes_on refusal (checks ++ rest) ∙ passes_read checks p.1)
 
   -- a stop is the refusal of the first check that applies
-  pub stop_read : (given : Sizes) (refusal : Refusal) (checks : List Check) → Stop refusal ≡ asked_all (Ready given) checks
+  pub stop_read : (given : Sizes) (refusal : Refusal) (checks : List Check) → Err refusal ≡ asked_all (Ok given) checks
       → read (checks ++ rest) ≡ refused refusal
   stop_read given refusal [] e = absurd (not_ready (sym e))
   stop_read given refusal (first when true ∷ checks) e =
@@ -61,8 +64,8 @@ module _ {A : Type 0} {read : List Check → A} {refused : Refusal → A} (refus
 
 -- ---- what reads them: a decision, a change, a call with an output
 
-pub decided_refuses : {A : Type 0} (refused : Refusal → A) (done : A) → Refuses (λ checks. decided refused checks done) refused
-decided_refuses refused done = record { stops = λ refusal checks. refl; goes_on = λ refusal checks. refl }
+pub decided_refuses : {A : Type 0} (done : A) → Refuses (λ checks. decided checks done) Err
+decided_refuses done = record { stops = λ refusal checks. refl; goes_on = λ refusal checks. refl }
 
 -- refused: the header given back, the memory as it was
 abbrev pub refused_change : Header → Memory → Refusal → After
@@ -80,22 +83,21 @@ outcome_refuses result out = record { stops = λ refusal checks. refl; goes_on =
 
 -- ---- a decision and the change that carries it out have the same checks
 
-module _ {A : Type 0} {refused : Refusal → A} {done : A} (back : Header) (memory : Memory) (after : After) where
+module _ {A : Type 0} (back : Header) (memory : Memory) (after : After) (done : A) where
   -- THEOREM: where the decision refuses, the change is refused for that reason, and nothing is changed
-  pub refused_changes : ((refusal other : Refusal) → refused refusal ≡ refused other → refusal ≡ other) → ((refusal : Refusal) → done ≡ refused refusal → ⊥)
-      → (checks : List Check) (refusal : Refusal) → refused refusal ≡ decided refused checks done
+  pub refused_changes : (checks : List Check) (refusal : Refusal) → Err refusal ≡ decided checks done
       → change checks back memory after ≡ refused_change back memory refusal
-  refused_changes same differs [] refusal e = absurd (differs refusal (sym e))
-  refused_changes same differs (first when true ∷ checks) refusal e = ap (refused_change back memory) (sym (same refusal first e))
-  refused_changes same differs (first when false ∷ checks) refusal e = refused_changes same differs checks refusal e
+  refused_changes [] refusal e = absurd (not_ready (sym e))
+  refused_changes (first when true ∷ checks) refusal e = ap (refused_change back memory) (same_reason e)
+  refused_changes (first when false ∷ checks) refusal e = refused_changes checks refusal e
 
   -- THEOREM: where it does not, the change is made, as decided
-  pub decided_changes : (checks : List Check) (decision : A) → ((refusal : Refusal) → decision ≡ refused refusal → ⊥)
-      → decision ≡ decided refused checks done → (decision ≡ done) × (change checks back memory after ≡ after) × Passes checks
-  decided_changes [] decision differs e = (e, refl, tt)
-  decided_changes (first when true ∷ checks) decision differs e = absurd (differs first e)
-  decided_changes (first when false ∷ checks) decision differs e =
-      let rest = decided_changes checks decision differs e in (rest.0, rest.1, (refl, rest.2))
+  pub decided_changes : (checks : List Check) (decision : A) → Ok decision ≡ decided checks done
+      → (decision ≡ done) × (change checks back memory after ≡ after) × Passes checks
+  decided_changes [] decision e = (same_decision e, refl, tt)
+  decided_changes (first when true ∷ checks) decision e = absurd (not_ready e)
+  decided_changes (first when false ∷ checks) decision e =
+      let rest = decided_changes checks decision e in (rest.0, rest.1, (refl, rest.2))
 
 -- ---- what the entry into an index says
 
@@ -130,20 +132,20 @@ module _ (words fences : ℕ) (header : Header) (checks : List Check) where
       }
 
   -- THEOREM: what it says that the entry is ready
-  pub ready_enters : (sizes : Sizes) → Ready sizes ≡ entered words fences header checks → Enters sizes
+  pub ready_enters : (sizes : Sizes) → Ok sizes ≡ entered words fences header checks → Enters sizes
   unfolding entered_index
   ready_enters sizes e =
       let told = ready_passes (sizes_of header) sizes (call_checks words fences header checks) e in rw told.0 (passes_enters told.1)
 
   module _ {A : Type 0} {read : List Check → A} {refused : Refusal → A} (refuses : Refuses read refused) (rest : List Check) where
     -- THEOREM: where the entry stops, what reads the call's checks refuses for that reason
-    pub stop_refused : (refusal : Refusal) → Stop refusal ≡ entered words fences header checks
+    pub stop_refused : (refusal : Refusal) → Err refusal ≡ entered words fences header checks
         → read (call_checks words fences header (checks ++ rest)) ≡ refused refusal
     unfolding entered_index
     stop_refused refusal e = stop_read refuses rest (sizes_of header) refusal (call_checks words fences header checks) e
 
     -- THEOREM: where it is ready, the checks behind decide
-    pub ready_goes_on : (sizes : Sizes) → Ready sizes ≡ entered words fences header checks
+    pub ready_goes_on : (sizes : Sizes) → Ok sizes ≡ entered words fences header checks
         → read (call_checks words fences header (checks ++ rest)) ≡ read rest
     unfolding entered_index
     ready_goes_on sizes e =

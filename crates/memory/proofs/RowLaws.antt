@@ -1,4 +1,5 @@
 -- A row read in several values: in how many it is, the last of them, and the words opened. Assumes nothing.
+use Rattle.std.specs.Prelude.{Some, Option, None}
 use mathlib.Core.Path.{◌≡◌, refl}
 use mathlib.Core.Bool.{Bool, true, false, cond}
 use Prim.Native.Nat.{ℕ, zero, suc, ◌+◌, ◌*◌, ◌-◌, ◌/◌, ◌%◌, ◌^◌, ◌<◌, ◌≤◌}
@@ -10,8 +11,7 @@ use Rattle.blocks.specs.Sizes.{update_room}
 use Rattle.blocks.specs.Inner.{Limits}
 use Rattle.blocks.specs.declared.sizes.Sizes.{Sizes}
 use Rattle.block_read.specs.declared.read.Reading.{Reading}
-use Rattle.block_read.specs.declared.read.Reading.TheVariants.{Group, Broken}
-use Rattle.block_read.proofs.Readings.{group_says}
+use Rattle.block_read.proofs.Readings.{read_as, group_says}
 use Rattle.memory.specs.Memory.{Memory, sizes_of, block_at}
 use Rattle.memory.specs.Reading.{fence_for, read_in, row_step, read_row, row_of}
 use Rattle.memory.specs.declared.header.Header.{Header}
@@ -22,13 +22,13 @@ use Rattle.memory.specs.declared.row.Row.{Row}
 module _ (row value : ℕ) (before : Row) (group opened : ℕ) where
   -- the row's bit of the group is 0
   pub step_clear : group / 2 ^ (30 - row % 31) % 2 ≡ 0
-      → row_step row value before (Group group opened)
+      → row_step row value before (read_as group opened)
       ≡ record { damaged = before.damaged; holders = before.holders; value = before.value; opened = before.opened + opened }
   step_clear e = rw (eq-eqb (group / 2 ^ (30 - row % 31) % 2) 0 e) refl
 
   -- or it is not
   pub step_set : (group / 2 ^ (30 - row % 31) % 2 ≡ 0 → ⊥)
-      → row_step row value before (Group group opened)
+      → row_step row value before (read_as group opened)
       ≡ record { damaged = before.damaged; holders = before.holders + 1; value = value; opened = before.opened + opened }
   step_set h = rw (ne_eqb (group / 2 ^ (30 - row % 31) % 2) 0 h) refl
 
@@ -55,18 +55,18 @@ module _ (budget count row : ℕ) (before : Row) (says : RowSays budget count be
   taken after h v o =
       record { few = omega (arith, says.few); below = λ some. omega arith; cheap = omega (arith, says.cheap, suc-mul count budget) }
 
-  step_says : (reading : Reading) → ((group opened : ℕ) → reading ≡ Group group opened → opened ≤ budget)
+  step_says : (reading : Option Reading) → ((group opened : ℕ) → reading ≡ read_as group opened → opened ≤ budget)
       → RowSays budget (suc count) (row_step row count before reading)
-  step_says Broken cheap = passed _ refl refl (omega arith)
-  step_says (Group group opened) cheap = go (eqb (group / 2 ^ (30 - row % 31) % 2) 0)
+  step_says None cheap = passed _ refl refl (omega arith)
+  step_says (Some reading) cheap = go (eqb (reading.group / 2 ^ (30 - row % 31) % 2) 0)
     where
       go : (clear : Bool)
           → RowSays budget (suc count)
           (cond clear
-          (record { damaged = before.damaged; holders = before.holders; value = before.value; opened = before.opened + opened })
-          (record { damaged = before.damaged; holders = before.holders + 1; value = count; opened = before.opened + opened }))
-      go true = passed _ refl refl (omega (arith, cheap group opened refl))
-      go false = taken _ refl refl (omega (arith, cheap group opened refl))
+          (record { damaged = before.damaged; holders = before.holders; value = before.value; opened = before.opened + reading.opened })
+          (record { damaged = before.damaged; holders = before.holders + 1; value = count; opened = before.opened + reading.opened }))
+      go true = passed _ refl refl (omega (arith, cheap reading.group reading.opened refl))
+      go false = taken _ refl refl (omega (arith, cheap reading.group reading.opened refl))
 
 -- ---- all values
 

@@ -1,8 +1,7 @@
 -- Definitions that the contracts of inner functions alone cite: the sizes of an index as they are passed on, what the checks that calls
 -- begin with come to, and what a row that was read means for a change.
-use Rattle.std.specs.Prelude.{◌≡◌, true, false, not, cond, List, [], ◌∷◌, ℕ, zero, suc, ◌+◌, ◌*◌, ◌≤◌, ltb, length}
+use Rattle.std.specs.Prelude.{Option, Some, None, Result, Ok, Err, ◌≡◌, true, false, not, cond, List, [], ◌∷◌, ℕ, zero, suc, ◌+◌, ◌*◌, ◌≤◌, ltb, length}
 use Rattle.answers.specs.Outcome.{Check, ◌when◌}
-use Rattle.answers.specs.declared.Answer.TheVariants.{Done, Refused}
 use Rattle.answers.specs.declared.Refusal.{Refusal}
 use Rattle.answers.specs.declared.Refusal.TheVariants.{BadValue, Full}
 use Rattle.blocks.specs.Sizes.{block_size, fence_count}
@@ -12,18 +11,11 @@ use Rattle.block_read.specs.Fences.{fence_of, fence_at}
 use Rattle.block_read.specs.declared.fence.Fence.{Fence}
 use Rattle.memory.specs.Memory.{within_limits, sizes_of}
 use Rattle.memory.specs.Entry.{bad_header, small, bad_value, missing, full, valid_column, header_for}
-use Rattle.memory.specs.Reading.{is_damaged, is_deleted, is_free}
+use Rattle.memory.specs.Reading.{is_damaged, is_deleted}
 use Rattle.memory.specs.declared.header.Header.{Header}
 use Rattle.memory.specs.declared.header.Changed.{Changed}
-use Rattle.memory.specs.declared.entry.Entry.{Entry}
-use Rattle.memory.specs.declared.entry.Entry.TheVariants.{Ready, Stop}
 use Rattle.memory.specs.declared.row.Row.{Row}
-use Rattle.memory.specs.declared.row.Legibility.{Legibility}
-use Rattle.memory.specs.declared.row.Legibility.TheVariants.{Readable, Unreadable}
-use Rattle.memory.specs.declared.row.Holder.{Holder}
-use Rattle.memory.specs.declared.row.Holder.TheVariants.{Found, Missing}
-use Rattle.memory.specs.declared.row.Vacancy.{Vacancy}
-use Rattle.memory.specs.declared.row.Vacancy.TheVariants.{Free, Taken}
+use Rattle.memory.specs.declared.row.Unreadable.{Unreadable}
 
 -- ---- the sizes of an index
 
@@ -48,43 +40,43 @@ fence_before sizes list (suc j) = fence_at sizes list j
 -- ---- checks in their order
 
 -- the first reason that applies, or what is to be done where none does
-abbrev pub decided : {A : Type 0} → (Refusal → A) → List Check → A → A
-decided refused [] done = done
-decided refused ((refusal when true) ∷ checks) done = refused refusal
-decided refused ((refusal when false) ∷ checks) done = decided refused checks done
+abbrev pub decided : {A : Type 0} → List Check → A → Result A Refusal
+decided [] done = Ok done
+decided ((refusal when true) ∷ checks) done = Err refusal
+decided ((refusal when false) ∷ checks) done = decided checks done
 
 -- one check more, after those that an entry has passed
-abbrev pub asked : Entry → Check → Entry
-asked (Stop refusal) check = Stop refusal
-asked (Ready sizes) (refusal when true) = Stop refusal
-asked (Ready sizes) (refusal when false) = Ready sizes
+abbrev pub asked : Result Sizes Refusal → Check → Result Sizes Refusal
+asked (Err refusal) check = Err refusal
+asked (Ok sizes) (refusal when true) = Err refusal
+asked (Ok sizes) (refusal when false) = Ok sizes
 
-abbrev pub asked_all : Entry → List Check → Entry
+abbrev pub asked_all : Result Sizes Refusal → List Check → Result Sizes Refusal
 asked_all entry [] = entry
 asked_all entry (check ∷ checks) = asked_all (asked entry check) checks
 
 -- what every call on an index asks first, for so many words and fences lent
-unfoldable pub entered_index : ℕ → ℕ → Header → Entry
-entered_index words fences header = asked_all (Ready (sizes_of header)) (bad_header header ∷ small header words fences ∷ [])
+unfoldable pub entered_index : ℕ → ℕ → Header → Result Sizes Refusal
+entered_index words fences header = asked_all (Ok (sizes_of header)) (bad_header header ∷ small header words fences ∷ [])
 
 -- and then the checks of the call's own
-abbrev pub entered : ℕ → ℕ → Header → List Check → Entry
+abbrev pub entered : ℕ → ℕ → Header → List Check → Result Sizes Refusal
 entered words fences header checks = asked_all (entered_index words fences header) checks
 
-abbrev pub entered_value : ℕ → ℕ → Header → ℕ → Entry
+abbrev pub entered_value : ℕ → ℕ → Header → ℕ → Result Sizes Refusal
 entered_value words fences header value = entered words fences header (bad_value header value ∷ [])
 
-abbrev pub entered_row : ℕ → ℕ → Header → ℕ → Entry
+abbrev pub entered_row : ℕ → ℕ → Header → ℕ → Result Sizes Refusal
 entered_row words fences header row = entered words fences header (missing header row ∷ [])
 
-abbrev pub entered_update : ℕ → ℕ → Header → ℕ → ℕ → Entry
+abbrev pub entered_update : ℕ → ℕ → Header → ℕ → ℕ → Result Sizes Refusal
 entered_update words fences header row value = entered words fences header (bad_value header value ∷ missing header row ∷ [])
 
-abbrev pub entered_insert : ℕ → ℕ → Header → ℕ → Entry
+abbrev pub entered_insert : ℕ → ℕ → Header → ℕ → Result Sizes Refusal
 entered_insert words fences header value = entered words fences header (bad_value header value ∷ full header ∷ [])
 
 -- a load: the header's limits are asked of R, d, T and G alone
-abbrev pub entered_load : ℕ → ℕ → ℕ → ℕ → ℕ → ℕ → List ℕ → Entry
+abbrev pub entered_load : ℕ → ℕ → ℕ → ℕ → ℕ → ℕ → List ℕ → Result Sizes Refusal
 entered_load words fences rows values threshold spacing column =
     entered words fences (header_for rows 0 values threshold spacing)
     (BadValue when not (valid_column values column) ∷ Full when ltb rows (length column) ∷ [])
@@ -92,19 +84,13 @@ entered_load words fences rows values threshold spacing column =
 -- ---- what a change answers: refused, with the header to go on with; or done, with a count
 
 abbrev pub refused_by : Header → Refusal → Changed
-refused_by header refusal = record { header = header; answer = Refused refusal }
+refused_by header refusal = record { header = header; answer = Err refusal }
 
 abbrev pub done_with : Header → ℕ → Changed
-done_with header count = record { header = header; answer = Done count }
+done_with header count = record { header = header; answer = Ok count }
 
 -- ---- a row that was read in all values
 
-unfoldable pub legibility_of : Row → Legibility
-legibility_of row = cond (is_damaged row) Unreadable Readable
-
--- the value that holds it, where it can be read
-unfoldable pub holder_of : Row → Holder
-holder_of row = cond (is_deleted row) Missing (Found row.value)
-
-unfoldable pub vacancy_of : Row → Vacancy
-vacancy_of row = cond (is_free row) Free Taken
+-- the value that holds it, if one does
+unfoldable pub holder_of : Row → Result (Option ℕ) Unreadable
+holder_of row = cond (is_damaged row) (Err (record {})) (Ok (cond (is_deleted row) None (Some row.value)))

@@ -1,5 +1,5 @@
 -- Document 01, "Reading one bit": a row in every value, and its state.
-use Rattle.std.specs.Prelude.{Bool, true, false, not, cond, ◌&&◌, ◌||◌, ℕ, zero, suc, ◌+◌, ◌*◌, ◌-◌, ◌/◌, ◌%◌, ◌^◌, ltb, eqb, get_or}
+use Rattle.std.specs.Prelude.{Option, Some, None, Bool, true, false, not, cond, ◌&&◌, ◌||◌, ℕ, zero, suc, ◌+◌, ◌*◌, ◌-◌, ◌/◌, ◌%◌, ◌^◌, ltb, eqb, get_or}
 use Rattle.answers.specs.Numbers.{number_of}
 use Rattle.answers.specs.declared.Refusal.{Refusal}
 use Rattle.answers.specs.declared.Refusal.TheVariants.{Damaged}
@@ -7,7 +7,6 @@ use Rattle.blocks.specs.Sizes.{fence_count}
 use Rattle.blocks.specs.declared.sizes.Sizes.{Sizes}
 use Rattle.block_read.specs.Read.{read_group}
 use Rattle.block_read.specs.declared.read.Reading.{Reading}
-use Rattle.block_read.specs.declared.read.Reading.TheVariants.{Group, Broken}
 use Rattle.memory.specs.Fences.{no_fence}
 use Rattle.memory.specs.Memory.{Memory, sizes_of, block_at}
 use Rattle.memory.specs.declared.header.Header.{Header}
@@ -22,7 +21,7 @@ unfoldable pub fence_for : Sizes → Memory → ℕ → ℕ → Fence
 fence_for sizes memory row value = get_or memory.fences (value * fence_count sizes + row / 31 / sizes.spacing) no_fence
 
 -- the row's group in V xor U of one value
-unfoldable pub read_in : Sizes → Memory → ℕ → ℕ → Reading
+unfoldable pub read_in : Sizes → Memory → ℕ → ℕ → Option Reading
 read_in sizes memory row value = read_group sizes (fence_for sizes memory row value) (row / 31) (block_at sizes memory.words value)
 
 -- no value is read
@@ -30,12 +29,12 @@ abbrev pub no_row : Row
 no_row = record { damaged = false; holders = 0; value = 0; opened = 0 }
 
 -- one value more: a bit of 1 makes it a holder, each word opened counts, and a broken read damages the row
-abbrev pub row_step : ℕ → ℕ → Row → Reading → Row
-row_step row value before (Group group opened) =
-    cond (eqb (group / 2 ^ (30 - row % 31) % 2) 0)
-    (record { damaged = before.damaged; holders = before.holders; value = before.value; opened = before.opened + opened })
-    (record { damaged = before.damaged; holders = before.holders + 1; value = value; opened = before.opened + opened })
-row_step row value before Broken = record { damaged = true; holders = before.holders; value = before.value; opened = before.opened }
+abbrev pub row_step : ℕ → ℕ → Row → Option Reading → Row
+row_step row value before (Some reading) =
+    cond (eqb (reading.group / 2 ^ (30 - row % 31) % 2) 0)
+    (record { damaged = before.damaged; holders = before.holders; value = before.value; opened = before.opened + reading.opened })
+    (record { damaged = before.damaged; holders = before.holders + 1; value = value; opened = before.opened + reading.opened })
+row_step row value before None = record { damaged = true; holders = before.holders; value = before.value; opened = before.opened }
 
 -- the row in the first values: all are read, none is left out after a hit
 abbrev pub read_row : Sizes → Memory → ℕ → ℕ → Row

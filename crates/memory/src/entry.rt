@@ -10,19 +10,12 @@ use blocks::sizes::{Sizes, sizes_for};
 use groups::rows::ROW_LIMIT;
 
 // What came of the checks that a call begins with: the sizes, or the first refusal that applies.
-#[derive(Clone, Copy)]
-pub enum Entry {
-    Ready(Sizes),
-    Stop(Refusal),
-}
+pub type Entry = Result<Sizes, Refusal>;
 
 fn is_between(low: u32, high: u32, number: u32) -> bool
     ensures { result ≡ between low high number }
 {
-    if number < low {
-        return false;
-    }
-    number <= high
+    low <= number && number <= high
 }
 
 // Whether R, d, T and G are within their limits.
@@ -55,30 +48,28 @@ pub fn enter_index(words: usize, fences: usize, header: Header) -> Entry
     ensures { result ≡ entered_index words fences header }
 {
     if !header_holds(header) {
-        return Entry::Stop(Refusal::BadHeader);
+        return Err(Refusal::BadHeader);
     }
     let sizes = sizes_for(header.rows, header.threshold, header.spacing);
     let values = header.values as usize;
     if words < values * sizes.block {
-        return Entry::Stop(Refusal::Small);
+        return Err(Refusal::Small);
     }
     if fences < values * sizes.fences {
-        return Entry::Stop(Refusal::Small);
+        return Err(Refusal::Small);
     }
-    Entry::Ready(sizes)
+    Ok(sizes)
 }
 
 // One check more, after those that an entry has passed.
 pub fn ask(entry: Entry, refusal: Refusal, applies: bool) -> Entry
     ensures { result ≡ asked entry (refusal when applies) }
 {
-    let Entry::Ready(passed) = entry else {
-        return entry;
-    };
+    let passed = entry?;
     if applies {
-        return Entry::Stop(refusal);
+        return Err(refusal);
     }
-    Entry::Ready(passed)
+    Ok(passed)
 }
 
 // For a call on a value: then BAD_VALUE.

@@ -1,10 +1,8 @@
-// Fences on plain numbers: which of them serves a row, where one leads, and whether a record is right.
+// Fences on plain numbers: which of them serves a row, and where one leads.
 ghost use Rattle.std.specs.Prelude.{◌≡◌, ◌+◌, ◌*◌, ◌/◌, ◌<◌, ◌≤◌, length};
 ghost use Rattle.blocks.specs.Sizes.{value_room, block_size, fence_count};
-ghost use Rattle.blocks.specs.Inner.{Limits};
 ghost use Rattle.blocks.specs.Block.{value_length};
 ghost use Rattle.block_read.specs.Fences.{fence_of, fence_at};
-ghost use Rattle.memory.specs.Fences.{is_fence};
 ghost use Rattle.memory.specs.Inner.{fence_before};
 ghost use Rattle.memory.specs.Memory.{block_at, list_at};
 
@@ -21,23 +19,14 @@ pub fn first_word() -> Fence
 
 // Fence j of a value's list, found from the fence before it on.
 pub fn find_fence(words: &[u32], sizes: Sizes, value: u32, before: Fence, j: usize) -> Fence
-    requires { Limits sizes × (value * block_size sizes + block_size sizes ≤ length words.now)
+    requires { (value * block_size sizes + block_size sizes ≤ length words.now)
         × (value_length (block_at sizes words.now value) ≤ value_room sizes) × (j < fence_count sizes)
         × (before ≡ fence_before sizes (list_at sizes words.now value) j) }
     ensures { result ≡ fence_at sizes (list_at sizes words.now value) j }
 {
-    let group = j as u32 * sizes.spacing;
+    let spacing = sizes.spacing;
+    let group = j as u32 * spacing;
     next_fence(block_of(words, sizes, value), sizes, before, group)
-}
-
-// Whether a lent record is the fence that it should be.
-pub fn is_fence(right: Fence, lent: Fence) -> bool
-    ensures { result ≡ is_fence right lent }
-{
-    if right.place != lent.place {
-        return false;
-    }
-    right.first == lent.first
 }
 
 // Which of a value's fences serves a row: g div G, g being the row's group.

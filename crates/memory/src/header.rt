@@ -30,8 +30,8 @@ pub fn refuse(header: Header, refusal: Refusal) -> Changed
     ensures { result ≡ refused_by header refusal }
 {
     Changed {
-        header: header,
-        answer: Answer::Refused(refusal),
+        header,
+        answer: Err(refusal),
     }
 }
 
@@ -40,8 +40,8 @@ pub fn done(header: Header) -> Changed
     ensures { result ≡ done_with header 0 }
 {
     Changed {
-        header: header,
-        answer: Answer::Done(0),
+        header,
+        answer: Ok(0),
     }
 }
 
@@ -52,13 +52,10 @@ pub fn grow(header: Header) -> Changed
 {
     Changed {
         header: Header {
-            rows: header.rows,
             issued: header.issued + 1,
-            values: header.values,
-            threshold: header.threshold,
-            spacing: header.spacing,
+            ..header
         },
-        answer: Answer::Done(header.issued as usize),
+        answer: Ok(header.issued as usize),
     }
 }
 
@@ -75,10 +72,10 @@ pub fn header_for(rows: u32, issued: usize, values: u32, threshold: u32, spacing
     ensures { result ≡ header_for rows issued values threshold spacing }
 {
     Header {
-        rows: rows,
+        rows,
         issued: issued as u32,
-        values: values,
-        threshold: threshold,
-        spacing: spacing,
+        values,
+        threshold,
+        spacing,
     }
 }

@@ -2,15 +2,14 @@
 ghost use Rattle.std.specs.Prelude.{◌≡◌, ◌+◌, ◌*◌, ◌-◌, ◌/◌, ◌%◌, ◌^◌, ◌<◌, ◌≤◌, length};
 ghost use Rattle.block_read.specs.Read.{read_group};
 ghost use Rattle.blocks.specs.Sizes.{block_size};
-ghost use Rattle.blocks.specs.Inner.{Limits};
 ghost use Rattle.memory.specs.Memory.{block_at};
 ghost use Rattle.memory.specs.Reading.{no_row, row_step, value_of, refused_value, is_damaged};
-ghost use Rattle.memory.specs.Inner.{legibility_of, holder_of, vacancy_of};
+ghost use Rattle.memory.specs.Inner.{holder_of};
 
 use crate::place::block_of;
 use answers::Refusal;
 use block_read::fence::Fence;
-use block_read::read::{Reading, read_group};
+use block_read::read::read_group;
 use blocks::sizes::Sizes;
 use groups::rows::{mask_of, under};
 
@@ -39,26 +38,9 @@ pub struct Value {
     pub opened: usize,
 }
 
-// Whether a row can be read: every read went well, and at most one found a 1.
+// A row that cannot be read: a read failed, or two values have the row.
 #[derive(Clone, Copy)]
-pub enum Legibility {
-    Readable,
-    Unreadable,
-}
-
-// The value that holds a row which can be read, if one does.
-#[derive(Clone, Copy)]
-pub enum Holder {
-    Found(u32),
-    Missing,
-}
-
-// Whether a row is in no value, as the next row has to be.
-#[derive(Clone, Copy)]
-pub enum Vacancy {
-    Free,
-    Taken,
-}
+pub struct Unreadable;
 
 // No value is read.
 pub fn no_row() -> Row
@@ -90,32 +72,28 @@ pub fn row_step(
     value: u32,
     before: Row,
 ) -> Row
-    requires { Limits sizes × (value * block_size sizes + block_size sizes ≤ length words.now)
+    requires { (value * block_size sizes + block_size sizes ≤ length words.now)
         × (mask ≡ 2 ^ (30 - row % 31)) × (before.holders < 64) × (before.opened ≤ 48321) }
     ensures { result ≡ row_step row value before (read_group sizes fence (row / 31) (block_at sizes words.now value)) }
 {
+    // A read field tells the limits of the sizes, which the calls below rest on.
+    let _ = &sizes.spacing;
     let block = block_of(words, sizes, value);
-    let Reading::Group(group, opened) = read_group(block, sizes, fence, row / 31) else {
+    let Some(reading) = read_group(block, sizes, fence, row / 31) else {
         return Row {
             damaged: true,
-            holders: before.holders,
-            value: before.value,
-            opened: before.opened,
+            ..before
         };
     };
-    if under(group, mask) == 0 {
-        return Row {
-            damaged: before.damaged,
-            holders: before.holders,
-            value: before.value,
-            opened: before.opened + opened,
-        };
+    let opened = before.opened + reading.opened;
+    if under(reading.group, mask) == 0 {
+        return Row { opened, ..before };
     }
     Row {
         damaged: before.damaged,
         holders: before.holders + 1,
-        value: value,
-        opened: before.opened + opened,
+        value,
+        opened,
     }
 }
 
@@ -123,10 +101,7 @@ pub fn row_step(
 fn is_damaged(row: Row) -> bool
     ensures { result ≡ is_damaged row }
 {
-    if row.damaged {
-        return true;
-    }
-    1 < row.holders
+    row.damaged || 1 < row.holders
 }
 
 // What Value answers for a row that is read in all values.
@@ -158,35 +133,15 @@ pub fn refused(refusal: Refusal) -> Value
     }
 }
 
-// Whether a row that is read in all values can be read.
-pub fn legibility_of(row: Row) -> Legibility
-    ensures { result ≡ legibility_of row }
-{
-    if is_damaged(row) {
-        return Legibility::Unreadable;
-    }
-    Legibility::Readable
-}
-
-// The holder of a row that can be read.
-pub fn holder_of(row: Row) -> Holder
+// The value that holds a row which is read in all values, if one does.
+pub fn holder_of(row: Row) -> Result<Option<u32>, Unreadable>
     ensures { result ≡ holder_of row }
 {
+    if is_damaged(row) {
+        return Err(Unreadable);
+    }
     if row.holders == 0 {
-        return Holder::Missing;
+        return Ok(None);
     }
-    Holder::Found(row.value)
-}
-
-// Whether every read of a row went well and none found a 1.
-pub fn vacancy_of(row: Row) -> Vacancy
-    ensures { result ≡ vacancy_of row }
-{
-    if row.damaged {
-        return Vacancy::Taken;
-    }
-    if row.holders != 0 {
-        return Vacancy::Taken;
-    }
-    Vacancy::Free
+    Ok(Some(row.value))
 }

@@ -1,4 +1,5 @@
 -- Pack and Unpack undo each other, and each promise allows one answer and one output. Assumes nothing.
+use Rattle.std.specs.Prelude.{Result}
 use mathlib.Core.Path.{◌≡◌, ◌∙◌, ap}
 use mathlib.Core.Bool.{true, not}
 use mathlib.Core.List.{List}
@@ -7,7 +8,6 @@ use lib.ListN.{length, take, drop}
 use lib.Seq.{take-append_seam, take_at}
 use borrow.Author.Tests.{le-ltb, ltb-false, not-false}
 use Rattle.answers.specs.Outcome.{Gives}
-use Rattle.answers.specs.declared.Answer.{Answer}
 use Rattle.answers.proofs.Accepted.{done, accepted, passes_done}
 use Rattle.answers.proofs.OneToOne.{gives_one}
 use Rattle.groups.specs.Rows.{row_limit, are_bits}
@@ -15,6 +15,7 @@ use Rattle.words.specs.Words.{unpacked, packed, canonical}
 use Rattle.packs.specs.Calls.{pack_checks, pack_outcome, unpack_checks, unpack_outcome}
 use Rattle.words.proofs.Round.{Words}
 use Rattle.words.proofs.Canonical.{packed-canonical, unpacked-packed, unpacked_bits, unpacked-length, packed-unpacked}
+use Rattle.answers.specs.declared.Refusal.{Refusal}
 
 -- ---- Pack
 
@@ -93,11 +94,11 @@ unpack_pack list count bytes out words e room =
 -- ---- one outcome
 
 -- THEOREM: Pack's promise allows one answer and one output
-pub pack_one : (rows out : List ℕ) (a b : Answer) (out₁ out₂ : List ℕ)
+pub pack_one : (rows out : List ℕ) (a b : Result ℕ Refusal) (out₁ out₂ : List ℕ)
     → Gives (pack_outcome rows out) a out₁ → Gives (pack_outcome rows out) b out₂ → (a ≡ b) × (out₁ ≡ out₂)
 pack_one rows out = gives_one (pack_outcome rows out)
 
 -- THEOREM: Unpack's promise allows one answer and one output
-pub unpack_one : (list : List ℕ) (count : ℕ) (out : List ℕ) (a b : Answer) (out₁ out₂ : List ℕ)
+pub unpack_one : (list : List ℕ) (count : ℕ) (out : List ℕ) (a b : Result ℕ Refusal) (out₁ out₂ : List ℕ)
     → Gives (unpack_outcome list count out) a out₁ → Gives (unpack_outcome list count out) b out₂ → (a ≡ b) × (out₁ ≡ out₂)
 unpack_one list count out = gives_one (unpack_outcome list count out)

@@ -6,27 +6,20 @@ ghost use Rattle.words.specs.Words.{packed};
 ghost use Rattle.packs.specs.Calls.{pack_outcome};
 
 use answers::{Answer, Refusal};
-use groups::rows::{GROUP_LIMIT, ROW_LIMIT, all_bits, group_of, groups_for, smaller};
+use groups::rows::{GROUP_LIMIT, ROW_LIMIT, all_bits, group_of, groups_for};
 use words::give::give_list;
-use words::writer::{Pending, finish, next_step, store};
+use words::writer::ListWriter;
 
 // Writes the list of some rows to a place that is long enough; answers its length.
 fn pack_into(rows: &[u8], out: &mut [u32]) -> usize
     requires { (are_bits rows.now ≡ true) × (length rows.now ≤ row_limit) × (length (packed rows.now) ≤ length out.old) }
     ensures { (result ≡ length (packed rows.now)) × (out.new ≡ packed rows.now ++ drop result out.old) }
 {
-    let mut pending = Pending { bit: 0, count: 0 };
-    let mut written: usize = 0;
-    let mut at: usize = 0;
-    while at < rows.len() {
-        let end = smaller(at + 31, rows.len());
-        let group = group_of(&rows[at..end]);
-        let step = next_step(pending, group, 1);
-        written = store(out, written, step);
-        pending = step.pending;
-        at = end;
+    let mut list = ListWriter::new(out);
+    for part in rows.chunks(31) {
+        list.push(group_of(part), 1);
     }
-    finish(out, written, pending)
+    list.finish()
 }
 
 // As `pack` of rows that are in order, where the output may be too short for their list: the list is
@@ -50,14 +43,14 @@ pub fn pack(rows: &[u8], out: &mut [u32]) -> Answer
     ensures { Gives (pack_outcome rows.now out.old) result out.new }
 {
     if !all_bits(rows) {
-        return Answer::Refused(Refusal::BadValue);
+        return Err(Refusal::BadValue);
     }
     if ROW_LIMIT < rows.len() {
-        return Answer::Refused(Refusal::Full);
+        return Err(Refusal::Full);
     }
     if out.len() < groups_for(rows.len()) {
         return pack_aside(rows, out);
     }
     let words = pack_into(rows, out);
-    Answer::Done(words)
+    Ok(words)
 }

@@ -1,32 +1,21 @@
 // Unpack: a canonical list to its rows, one word after the other.
-ghost use Rattle.std.specs.Prelude.{◌≡◌, min, ◌+◌, ◌*◌, ◌≤◌, [], ◌∷◌, length, take, replicate};
+ghost use Rattle.std.specs.Prelude.{◌≡◌, min, ◌+◌, ◌*◌, ◌≤◌, [], ◌∷◌, length, take};
 ghost use Rattle.answers.specs.Outcome.{Gives};
 ghost use Rattle.groups.specs.Rows.{row_limit, rows_of};
 ghost use Rattle.words.specs.Words.{run_of, span, decode};
 ghost use Rattle.packs.specs.Calls.{unpack_outcome};
 
 use answers::{Answer, Refusal};
-use groups::rows::{ROW_LIMIT, put_rows, smaller};
-use list_check::check::{Checked, check};
+use groups::rows::{ROW_LIMIT, put_rows};
+use list_check::check::check;
 use words::word::{fill_bit, is_fill, span_of};
-
-// Writes one row's value to all of `out`.
-fn put_fill(out: &mut [u8], bit: u8)
-    ensures { out.new ≡ replicate (length out.old) bit }
-{
-    let mut i: usize = 0;
-    while i < out.len() {
-        out[i] = bit;
-        i += 1;
-    }
-}
 
 // Where the rows of a word end that begin at row `at`, of `length` rows in all.
 fn end_of(word: u32, at: usize, length: usize) -> usize
     requires { (at ≤ length) × (length ≤ row_limit) }
     ensures { result ≡ min (at + 31 * span (run_of word)) length }
 {
-    smaller(at + 31 * (span_of(word) as usize), length)
+    (at + 31 * (span_of(word) as usize)).min(length)
 }
 
 // Writes the first rows of a word, as many as `out` has room for.
@@ -35,7 +24,7 @@ fn put_word(out: &mut [u8], word: u32)
     ensures { out.new ≡ take (length out.old) (rows_of (decode (word ∷ []))) }
 {
     if is_fill(word) {
-        put_fill(out, fill_bit(word) as u8);
+        out.fill(fill_bit(word) as u8);
     } else {
         put_rows(out, word);
     }
@@ -47,13 +36,10 @@ fn unpack_into(list: &[u32], out: &mut [u8])
     ensures { out.new ≡ take (length out.old) (rows_of (decode list.now)) }
 {
     let mut at: usize = 0;
-    let mut i: usize = 0;
-    while i < list.len() {
-        let word = list[i];
-        let end = end_of(word, at, out.len());
-        put_word(&mut out[at..end], word);
+    for word in list {
+        let end = end_of(*word, at, out.len());
+        put_word(&mut out[at..end], *word);
         at = end;
-        i += 1;
     }
 }
 
@@ -67,14 +53,14 @@ pub fn unpack(list: &[u32], length: usize, out: &mut [u8]) -> Answer
     ensures { Gives (unpack_outcome list.now length out.old) result out.new }
 {
     if ROW_LIMIT < length {
-        return Answer::Refused(Refusal::Full);
+        return Err(Refusal::Full);
     }
     if out.len() < length {
-        return Answer::Refused(Refusal::OutSmall);
+        return Err(Refusal::OutSmall);
     }
-    let Checked::Whole = check(list, length) else {
-        return Answer::Refused(Refusal::BadList);
+    let Ok(()) = check(list, length) else {
+        return Err(Refusal::BadList);
     };
     unpack_into(list, &mut out[..length]);
-    Answer::Done(length)
+    Ok(length)
 }

@@ -1,4 +1,5 @@
 -- Laws of the lines that answers print. Assumes nothing.
+use Rattle.std.specs.Prelude.{Ok, Err, Result}
 use mathlib.Core.Path.{◌≡◌, refl, ◌∙◌, sym}
 use mathlib.Core.Bool.{Bool, true, false}
 use mathlib.Core.List.{List, [], ◌∷◌}
@@ -9,9 +10,8 @@ use lib.Dec.{leb}
 use lib.ListN.{length, take, drop, replicate, length-append, length-replicate}
 use lib.Seq.{sets, take-append_seam}
 use borrow.Author.Tests.{leb-true, leb-false}
-use Rattle.answers.specs.Numbers.{Paper, number_of, paper}
+use Rattle.answers.specs.Numbers.{number_of, paper}
 use Rattle.answers.specs.Outcome.{Check, ◌when◌, outcome, Gives}
-use Rattle.answers.specs.declared.Answer.{Answer}
 use Rattle.answers.specs.declared.Refusal.{Refusal}
 use Rattle.answers.specs.declared.Refusal.TheVariants.{BadFrame}
 use Rattle.answers.proofs.Accepted.{Passes, no_zero}
@@ -38,14 +38,15 @@ refusal_line_lem refusal lines = refused (number_of refusal) lines (positive (nu
     positive zero e = absurd (no_zero refusal e)
     positive (suc number) e = omega arith
 
-module _ (value : ℕ) (answer : Paper) (list : List ℕ) (number : ℕ) (is : number ≡ answer.number) where
-  pub refused_line : 0 < number → answer_line value answer list ≡ refusal_line number
+-- the line of a Query that is done, and of one that is refused
+module _ (value : ℕ) (answer : Result ℕ Refusal) (list : List ℕ) where
+  pub done_line : (count : ℕ) → answer ≡ Ok count → answer_line value (paper answer) list ≡ value_line value (take count list)
   unfolding answer_line
-  refused_line h = rw (← is) (refused number (value_line value (take answer.count list)) h)
+  done_line count e = rw e refl
 
-  pub done_line : number ≤ 0 → (count : ℕ) → count ≡ answer.count → answer_line value answer list ≡ value_line value (take count list)
+  pub refused_line : (refusal : Refusal) → answer ≡ Err refusal → answer_line value (paper answer) list ≡ refusal_line (number_of refusal)
   unfolding answer_line
-  done_line h count many = let none : number ≡ 0 = omega arith in rw (← is, none, ← many) refl
+  refused_line refusal e = rw e (refusal_line_lem refusal (value_line value (take 0 list)))
 
 -- ---- the line of an outcome
 
@@ -86,7 +87,7 @@ module _ (header : Header) (memory : Memory) where
   unfolding query_line query_outcome
   query_short value most h fits = short_line value (query_checks header memory value (replicate 4096 0)) (query_list header memory value) (replicate 4096 0) most h fits
 
-  module _ (value : ℕ) (list : List ℕ) (long : length list ≡ 4096) (answer : Answer) (left : List ℕ)
+  module _ (value : ℕ) (list : List ℕ) (long : length list ≡ 4096) (answer : Result ℕ Refusal) (left : List ℕ)
       (gives : Gives (query_outcome header memory value list) answer left) where
     pub asked-count : (paper answer).count ≤ length left
     unfolding query_outcome

@@ -25,14 +25,10 @@ pub fn is_frame(line: &[u8]) -> bool
 pub fn line_length(input: &[u8]) -> usize
     ensures { result ≡ line_length input.now }
 {
-    if input.len() == 0 {
-        return 0;
+    match input.last() {
+        Some(b'\n') => input.len() - 1,
+        _ => input.len(),
     }
-    let last = input.len() - 1;
-    if input[last] == b'\n' {
-        return last;
-    }
-    input.len()
 }
 
 // The number of the digits from one place up to another.
@@ -54,11 +50,8 @@ pub fn read_column(digits: &[u8], column: &mut [u8]) -> usize
     requires { length digits.now / 2 ≤ length column.old }
     ensures { (result ≡ length (column_in digits.now)) × (column.new ≡ column_in digits.now ++ drop result column.old) }
 {
-    let rows = digits.len() / 2;
-    let mut row: usize = 0;
-    while row < rows {
-        column[row] = byte_of(digits[2 * row], digits[2 * row + 1]);
-        row += 1;
+    for (row, pair) in digits.chunks_exact(2).enumerate() {
+        column[row] = byte_of(pair[0], pair[1]);
     }
-    rows
+    digits.len() / 2
 }

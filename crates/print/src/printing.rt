@@ -14,38 +14,16 @@ use index::answering::query;
 use index::loading::load;
 use memory::header::Header;
 
-// Document 01's number of an answer.
-fn number_of(answer: Answer) -> u32
-    ensures { result ≡ (paper answer).number }
-{
-    match answer {
-        Answer::Done(_) => 0,
-        Answer::Refused(refusal) => answers::number(refusal),
-    }
-}
-
-// Its count, 0 when refused.
-fn count_of(answer: Answer) -> usize
-    ensures { result ≡ (paper answer).count }
-{
-    match answer {
-        Answer::Done(count) => count,
-        Answer::Refused(_) => 0,
-    }
-}
-
 // The line of a value whose Query gave an answer and left a list.
 fn put_answer(list: &[u32], out: &mut [u8], at: usize, value: u32, answer: Answer) -> usize
     requires { ((paper answer).count ≤ length list.now) × (at + length (answer_line value (paper answer) list.now) ≤ length out.old) }
     ensures { (result ≡ at + length (answer_line value (paper answer) list.now))
         × (out.new ≡ sets out.old at (answer_line value (paper answer) list.now)) }
 {
-    let number = number_of(answer);
-    if 0 < number {
-        return put_refusal(out, at, number);
+    match answer {
+        Ok(count) => put_value(&list[..count], out, at, value),
+        Err(refusal) => put_refusal(out, at, u32::from(refusal)),
     }
-    let count = count_of(answer);
-    put_value(&list[..count], out, at, value)
 }
 
 // The lines of all values of an index; each one's list is made in `list`.
@@ -94,11 +72,10 @@ fn put_column(
         threshold,
         spacing,
     );
-    let refused = number_of(loaded.answer);
-    if 0 < refused {
-        return put_refusal(out, 0, refused);
+    match loaded.answer {
+        Ok(_) => put_values(&words, &fences, &mut list, out, loaded.header),
+        Err(refusal) => put_refusal(out, 0, u32::from(refusal)),
     }
-    put_values(&words, &fences, &mut list, out, loaded.header)
 }
 
 // The lines of a frame.
@@ -121,7 +98,7 @@ fn put_line(line: &[u8], out: &mut [u8]) -> usize
     ensures { (result ≡ length (frame_lines line.now)) × (out.new ≡ sets out.old 0 (frame_lines line.now)) }
 {
     if !is_frame(line) {
-        return put_refusal(out, 0, answers::number(Refusal::BadFrame));
+        return put_refusal(out, 0, u32::from(Refusal::BadFrame));
     }
     put_frame(line, out)
 }

@@ -10,10 +10,8 @@ fn put_words(list: &[u32], out: &mut [u8], at: usize) -> usize
     ensures { (result ≡ at + length (hex_words list.now)) × (out.new ≡ sets out.old at (hex_words list.now)) }
 {
     let mut next = at;
-    let mut i: usize = 0;
-    while i < list.len() {
-        next = put_digits(out, next, list[i], 8);
-        i += 1;
+    for word in list {
+        next = put_digits(out, next, *word, 8);
     }
     next
 }

@@ -4,7 +4,7 @@ ghost use Rattle.memory.specs.Memory.{memory_of};
 ghost use Rattle.index.specs.Calls.{load_after, insert_after, update_after, delete_after, merge_after};
 ghost use Rattle.upbit.specs.Told.{Told};
 
-use crate::numbers::{ChangedNumbers, changed_numbers};
+use crate::numbers::ChangedNumbers;
 use block_read::fence::Fence;
 use index::changing::{delete, insert, merge, update};
 use index::loading::load;
@@ -22,7 +22,7 @@ pub extern "C" fn upbit_load(
 ) -> ChangedNumbers
     ensures { Told (load_after rows values threshold spacing column.now (memory_of words.old fences.old)) result words.new fences.new }
 {
-    changed_numbers(load(words, fences, column, rows, values, threshold, spacing))
+    ChangedNumbers::from(load(words, fences, column, rows, values, threshold, spacing))
 }
 
 #[unsafe(no_mangle)]
@@ -34,7 +34,7 @@ pub extern "C" fn upbit_insert(
 ) -> ChangedNumbers
     ensures { Told (insert_after header (memory_of words.old fences.old) value) result words.new fences.new }
 {
-    changed_numbers(insert(words, fences, header, value))
+    ChangedNumbers::from(insert(words, fences, header, value))
 }
 
 #[unsafe(no_mangle)]
@@ -47,7 +47,7 @@ pub extern "C" fn upbit_update(
 ) -> ChangedNumbers
     ensures { Told (update_after header (memory_of words.old fences.old) row value) result words.new fences.new }
 {
-    changed_numbers(update(words, fences, header, row, value))
+    ChangedNumbers::from(update(words, fences, header, row, value))
 }
 
 #[unsafe(no_mangle)]
@@ -59,7 +59,7 @@ pub extern "C" fn upbit_delete(
 ) -> ChangedNumbers
     ensures { Told (delete_after header (memory_of words.old fences.old) row) result words.new fences.new }
 {
-    changed_numbers(delete(words, fences, header, row))
+    ChangedNumbers::from(delete(words, fences, header, row))
 }
 
 #[unsafe(no_mangle)]
@@ -71,5 +71,5 @@ pub extern "C" fn upbit_merge(
 ) -> ChangedNumbers
     ensures { Told (merge_after header (memory_of words.old fences.old) value) result words.new fences.new }
 {
-    changed_numbers(merge(words, fences, header, value))
+    ChangedNumbers::from(merge(words, fences, header, value))
 }

@@ -44,58 +44,55 @@ pub struct RoomNumbers {
     pub fences: usize,
 }
 
-// The numbers of an answer.
-pub fn answer_numbers(answer: Answer) -> AnswerNumbers
-    ensures { result ≡ answer_numbers_of (paper answer) }
-{
-    match answer {
-        Answer::Done(count) => AnswerNumbers {
-            number: 0,
-            count: count,
-        },
-        Answer::Refused(refusal) => AnswerNumbers {
-            number: answers::number(refusal),
-            count: 0,
-        },
+impl From<Answer> for AnswerNumbers {
+    ghost from_gives = { λ answer numbers. numbers ≡ answer_numbers_of (paper answer) };
+
+    fn from(answer: Answer) -> AnswerNumbers {
+        match answer {
+            Ok(count) => AnswerNumbers { number: 0, count },
+            Err(refusal) => AnswerNumbers {
+                number: u32::from(refusal),
+                count: 0,
+            },
+        }
     }
 }
 
-// The numbers of a change.
-pub fn changed_numbers(changed: Changed) -> ChangedNumbers
-    ensures { result ≡ changed_numbers_of changed.header (paper changed.answer) }
-{
-    let header = changed.header;
-    let answer = changed.answer;
-    ChangedNumbers {
-        header: header,
-        answer: answer_numbers(answer),
+impl From<Changed> for ChangedNumbers {
+    ghost from_gives = { λ changed numbers. numbers ≡ changed_numbers_of changed.header (paper changed.answer) };
+
+    fn from(changed: Changed) -> ChangedNumbers {
+        ChangedNumbers {
+            header: changed.header,
+            answer: AnswerNumbers::from(changed.answer),
+        }
     }
 }
 
-// The numbers of a row's state.
-pub fn row_numbers(row: Value) -> RowNumbers
-    ensures { result ≡ row_numbers_of (value_paper row) }
-{
-    let state = row.state;
-    let opened = row.opened;
-    match state {
-        State::Live(value) => RowNumbers {
-            number: 0,
-            live: 1,
-            value: value,
-            opened: opened,
-        },
-        State::Deleted => RowNumbers {
-            number: 0,
-            live: 0,
-            value: 255,
-            opened: opened,
-        },
-        State::Refused(refusal) => RowNumbers {
-            number: answers::number(refusal),
-            live: 0,
-            value: 0,
-            opened: opened,
-        },
+impl From<Value> for RowNumbers {
+    ghost from_gives = { λ row numbers. numbers ≡ row_numbers_of (value_paper row) };
+
+    fn from(row: Value) -> RowNumbers {
+        let opened = row.opened;
+        match row.state {
+            State::Live(value) => RowNumbers {
+                number: 0,
+                live: 1,
+                value,
+                opened,
+            },
+            State::Deleted => RowNumbers {
+                number: 0,
+                live: 0,
+                value: 255,
+                opened,
+            },
+            State::Refused(refusal) => RowNumbers {
+                number: u32::from(refusal),
+                live: 0,
+                value: 0,
+                opened,
+            },
+        }
     }
 }

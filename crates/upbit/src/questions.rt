@@ -5,7 +5,7 @@ ghost use Rattle.memory.specs.Memory.{memory_of};
 ghost use Rattle.index.specs.Calls.{value_outcome, query_outcome, dump_outcome, audit_outcome};
 ghost use Rattle.upbit.specs.Told.{Tells, answer_numbers_of, row_numbers_of};
 
-use crate::numbers::{AnswerNumbers, RowNumbers, answer_numbers, row_numbers};
+use crate::numbers::{AnswerNumbers, RowNumbers};
 use block_read::fence::Fence;
 use index::answering::{query, value};
 use index::auditing::audit;
@@ -21,7 +21,7 @@ pub extern "C" fn upbit_value(
 ) -> RowNumbers
     ensures { result ≡ row_numbers_of (value_outcome header (memory_of words.now fences.now) row) }
 {
-    row_numbers(value(words, fences, header, row))
+    RowNumbers::from(value(words, fences, header, row))
 }
 
 #[unsafe(no_mangle)]
@@ -34,7 +34,7 @@ pub extern "C" fn upbit_query(
 ) -> AnswerNumbers
     ensures { Tells (query_outcome header (memory_of words.now fences.now) value out.old) result out.new }
 {
-    answer_numbers(query(words, fences, out, header, value))
+    AnswerNumbers::from(query(words, fences, out, header, value))
 }
 
 #[unsafe(no_mangle)]
@@ -46,12 +46,12 @@ pub extern "C" fn upbit_dump(
 ) -> AnswerNumbers
     ensures { Tells (dump_outcome header (memory_of words.now fences.now) out.old) result out.new }
 {
-    answer_numbers(dump(words, fences, out, header))
+    AnswerNumbers::from(dump(words, fences, out, header))
 }
 
 #[unsafe(no_mangle)]
 pub extern "C" fn upbit_audit(words: &[u32], fences: &[Fence], header: Header) -> AnswerNumbers
     ensures { result ≡ answer_numbers_of (audit_outcome header (memory_of words.now fences.now)).answer }
 {
-    answer_numbers(audit(words, fences, header))
+    AnswerNumbers::from(audit(words, fences, header))
 }

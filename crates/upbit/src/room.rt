@@ -21,7 +21,7 @@ pub extern "C" fn upbit_room_for(
 {
     if !limits_hold(rows, values, threshold, spacing) {
         return RoomNumbers {
-            number: answers::number(Refusal::BadHeader),
+            number: u32::from(Refusal::BadHeader),
             words: 0,
             fences: 0,
         };

@@ -1,8 +1,10 @@
 -- Definitions that the contracts of inner functions alone cite.
 use Rattle.std.specs.Prelude.{List, [], ◌∷◌, ◌++◌, ◌≡◌, ℕ, ◌+◌, ◌*◌, ◌<◌, ◌≤◌, length, take, replicate}
+use Rattle.std.proofs.lemmas.List.Edits.{sets}
 use Rattle.words.specs.Words.{all_ones, encode}
 use Rattle.words.specs.declared.writer.Pending.{Pending}
 use Rattle.words.specs.declared.writer.Step.{Step}
+use Rattle.words.specs.declared.writer.ListWriter.{ListWriter}
 
 -- `count` groups of one bit
 abbrev pub uniform : ℕ → ℕ → List ℕ
@@ -30,3 +32,31 @@ pub record Takes (pending : Pending) (groups : List ℕ) (step : Step) : Type 0 
   pub few : step.words ≤ 2
   pub is_bit : step.pending.bit < 2
   pub grows : step.pending.count ≤ pending.count + length groups
+
+-- ---- a list that is being written
+
+-- no run
+abbrev pub no_run : Pending
+no_run = record { bit = 0; count = 0 }
+
+-- some groups can be taken in: the words of these and of those behind them fit
+pub record Fits (groups : List ℕ) (list : ListWriter) : Type 0 where
+  pub is_bit : list.pending.bit < 2
+  pub few : list.pending.count + length groups < 0x40000000
+  pub behind : List ℕ
+  pub room : list.written + length (encode (after list.pending (groups ++ behind))) ≤ length list.out.now
+
+-- some groups were taken in: whatever groups follow, the words of all are those written and then those of what is pending
+pub record Follows (groups : List ℕ) (before list : ListWriter) : Type 0 where
+  pub words : List ℕ
+  pub law : (rest : List ℕ) → encode (after before.pending (groups ++ rest)) ≡ words ++ encode (after list.pending rest)
+  pub is_bit : list.pending.bit < 2
+  pub grows : list.pending.count ≤ before.pending.count + length groups
+  pub counts : list.written ≡ before.written + length words
+  pub writes : list.out.now ≡ sets before.out.now before.written words
+
+-- the run that is pending can be written
+pub record Closes (list : ListWriter) : Type 0 where
+  pub is_bit : list.pending.bit < 2
+  pub few : list.pending.count < 0x40000000
+  pub room : list.written + length (last_words list.pending) ≤ length list.out.now

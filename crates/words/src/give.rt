@@ -11,8 +11,8 @@ pub fn give_list(list: &[u32], out: &mut [u32]) -> Answer
     ensures { Gives (given list.now out.old) result out.new }
 {
     if out.len() < list.len() {
-        return Answer::Refused(Refusal::OutSmall);
+        return Err(Refusal::OutSmall);
     }
     copy(list, out);
-    Answer::Done(list.len())
+    Ok(list.len())
 }

@@ -1,5 +1,5 @@
 // Words: a literal holds one group; a fill counts groups of one bit.
-ghost use Rattle.std.specs.Prelude.{◌≡◌, min, ◌<◌, ◌/◌, ◌%◌, leb};
+ghost use Rattle.std.specs.Prelude.{◌≡◌, ◌<◌, ◌/◌, ◌%◌, leb};
 ghost use Rattle.words.specs.Words.{Run, word_of, run_of, span, group_in};
 
 // The group of 31 ones.
@@ -57,11 +57,4 @@ pub fn group_in(word: u32) -> u32
     } else {
         word
     }
-}
-
-// The shorter of two spans.
-pub fn smaller(x: u32, y: u32) -> u32
-    ensures { result ≡ min x y }
-{
-    if x < y { x } else { y }
 }

@@ -3,7 +3,7 @@
 ghost use Rattle.std.specs.Prelude.{◌≡◌, [], ◌∷◌, ◌++◌, ◌+◌, ◌<◌, ◌≤◌, length, drop, replicate};
 ghost use Rattle.std.proofs.lemmas.List.Edits.{sets};
 ghost use Rattle.words.specs.Words.{all_ones};
-ghost use Rattle.words.specs.Inner.{uniform, Alone, Takes, written, last_words};
+ghost use Rattle.words.specs.Inner.{uniform, Alone, Takes, written, last_words, no_run, Fits, Follows, Closes};
 
 use crate::word::{ALL_ONES, fill_word};
 
@@ -23,6 +23,82 @@ pub struct Step {
     pub pending: Pending,
 }
 
+// A canonical list that is being written over the front of `out`: its words so far, and the run that is pending.
+#[derive(Drop)]
+pub struct ListWriter<'a> {
+    pub out: &'a mut [u32],
+    pub written: usize,
+    pub pending: Pending,
+}
+
+impl<'a> ListWriter<'a> {
+    // No word is written, and no run is pending.
+    pub fn new(out: &'a mut [u32]) -> ListWriter<'a>
+        ensures same_reference { result.out.ghost_name ≡ out.entry.ghost_name }
+        ensures begins { (result.out.now ≡ out.old) × (result.written ≡ 0) × (result.pending ≡ no_run) }
+    {
+        ListWriter {
+            out,
+            written: 0,
+            pending: Pending { bit: 0, count: 0 },
+        }
+    }
+
+    // Takes in `count` times one group; more than once only where the group is uniform.
+    pub fn push(&mut self, group: u32, count: u32)
+        requires { (0 < count) × Alone group count × Fits (replicate count group) self.old }
+        ensures same_reference { self.new.out.ghost_name ≡ self.old.out.ghost_name }
+        ensures follows { Follows (replicate count group) self.old self.new }
+    {
+        let step = next_step(self.pending, group, count);
+        self.written = store(self.out, self.written, step);
+        // Field by field: written as a pair the two would share a register and be taken apart at each group.
+        self.pending.bit = step.pending.bit;
+        self.pending.count = step.pending.count;
+    }
+
+    // Takes in `count` groups without a 1; `count` may be 0.
+    pub fn push_zeros(&mut self, count: u32)
+        requires { Fits (replicate count 0) self.old }
+        ensures same_reference { self.new.out.ghost_name ≡ self.old.out.ghost_name }
+        ensures follows { Follows (replicate count 0) self.old self.new }
+    {
+        if count != 0 {
+            self.push(0, count);
+        }
+    }
+
+    // Writes a run, and behind it some words as they are; after them the run `pending` is pending.
+    pub fn splice(&mut self, ended: Pending, words: &[u32], pending: Pending)
+        requires { (ended.bit < 2) × (ended.count < 0x40000000)
+            × (self.old.written + length (last_words ended ++ words.now) ≤ length self.old.out.now) }
+        ensures same_reference { self.new.out.ghost_name ≡ self.old.out.ghost_name }
+        ensures splices { (self.new.out.now ≡ sets self.old.out.now self.old.written (last_words ended ++ words.now))
+            × (self.new.written ≡ self.old.written + length (last_words ended ++ words.now))
+            × (self.new.pending ≡ pending) }
+    {
+        let start = finish(self.out, self.written, ended);
+        let end = start + words.len();
+        copy(words, &mut self.out[start..end]);
+        self.written = end;
+        self.pending = pending;
+    }
+
+    // Writes the run that is pending when no group is left; answers the length of the list.
+    pub fn finish(self) -> usize
+        requires { Closes self }
+        ensures { (result ≡ self.entry.written + length (last_words self.entry.pending))
+            × (self.exit.0.now ≡ sets self.entry.out.now self.entry.written (last_words self.entry.pending)) }
+    {
+        let ListWriter {
+            out,
+            written,
+            pending,
+        } = self;
+        finish(out, written, pending)
+    }
+}
+
 // `count` groups of one bit come after a pending run.
 fn step_fill(pending: Pending, bit: u32, count: u32) -> Step
     requires { (pending.bit < 2) × (bit < 2) × (0 < count) × (pending.count + count < 0x40000000) }
@@ -33,10 +109,7 @@ fn step_fill(pending: Pending, bit: u32, count: u32) -> Step
             words: 0,
             first: 0,
             second: 0,
-            pending: Pending {
-                bit: bit,
-                count: count,
-            },
+            pending: Pending { bit, count },
         };
     }
     if pending.bit == bit {
@@ -45,10 +118,7 @@ fn step_fill(pending: Pending, bit: u32, count: u32) -> Step
             words: 0,
             first: 0,
             second: 0,
-            pending: Pending {
-                bit: bit,
-                count: longer,
-            },
+            pending: Pending { bit, count: longer },
         };
     }
     let word = fill_word(pending.bit, pending.count);
@@ -56,10 +126,7 @@ fn step_fill(pending: Pending, bit: u32, count: u32) -> Step
         words: 1,
         first: word,
         second: 0,
-        pending: Pending {
-            bit: bit,
-            count: count,
-        },
+        pending: Pending { bit, count },
     }
 }
 
@@ -86,7 +153,7 @@ fn step_literal(pending: Pending, group: u32) -> Step
 }
 
 // `count` times one group come after a pending run; more than once only where the group is uniform.
-pub fn next_step(pending: Pending, group: u32, count: u32) -> Step
+fn next_step(pending: Pending, group: u32, count: u32) -> Step
     requires { (pending.bit < 2) × (0 < count) × (pending.count + count < 0x40000000) × Alone group count }
     ensures { Takes pending (replicate count group) result }
 {
@@ -100,7 +167,7 @@ pub fn next_step(pending: Pending, group: u32, count: u32) -> Step
 }
 
 // Writes a step's words from place `at` on; answers the next place.
-pub fn store(out: &mut [u32], at: usize, step: Step) -> usize
+fn store(out: &mut [u32], at: usize, step: Step) -> usize
     requires { (step.words ≤ 2) × (at + step.words ≤ length out.old) }
     ensures { (result ≡ at + step.words) × (out.new ≡ sets out.old at (written step)) }
 {
@@ -117,7 +184,7 @@ pub fn store(out: &mut [u32], at: usize, step: Step) -> usize
 }
 
 // Writes the run that is pending when no group is left; answers the length of the list.
-pub fn finish(out: &mut [u32], at: usize, pending: Pending) -> usize
+fn finish(out: &mut [u32], at: usize, pending: Pending) -> usize
     requires { (pending.bit < 2) × (pending.count < 0x40000000) × (at + length (last_words pending) ≤ length out.old) }
     ensures { (result ≡ at + length (last_words pending)) × (out.new ≡ sets out.old at (last_words pending)) }
 {
@@ -133,9 +200,5 @@ pub fn copy(list: &[u32], out: &mut [u32])
     requires { length list.now ≤ length out.old }
     ensures { out.new ≡ list.now ++ drop (length list.now) out.old }
 {
-    let mut i: usize = 0;
-    while i < list.len() {
-        out[i] = list[i];
-        i += 1;
-    }
+    out[..list.len()].copy_from_slice(list);
 }

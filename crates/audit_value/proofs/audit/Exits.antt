@@ -1,4 +1,5 @@
 -- Audit's part for one value: what is asked of its lists, and each way out of tests one after the other. Assumes nothing.
+use Rattle.std.specs.Prelude.{Some, None}
 use mathlib.Core.Path.{◌≡◌, refl, sym}
 use mathlib.Core.Bool.{Bool, true, false, ◌&&◌}
 use mathlib.Core.List.{List}
@@ -10,7 +11,6 @@ use Rattle.blocks.specs.Inner.{Limits, whole_of}
 use Rattle.blocks.specs.Whole.{whole_lists}
 use Rattle.blocks.specs.Audit.{clear_lists, unused_zero, sound_lists}
 use Rattle.blocks.specs.declared.sizes.Sizes.{Sizes}
-use Rattle.blocks.specs.declared.whole.Lists.TheVariants.{Intact, Faulty}
 use Rattle.blocks.proofs.whole.Verdict.{faulty_whole, intact-whole}
 
 -- what is asked of a slice that is a list of M groups
@@ -30,11 +30,11 @@ module _ (first second found : Bool) (told : found ≡ first) where
 -- ---- all of them
 
 module _ (sizes : Sizes) (issued : ℕ) (block : List ℕ) where
-  pub not-whole : Faulty ≡ whole_of sizes block → false ≡ sound_lists sizes issued block
+  pub not-whole : None ≡ whole_of sizes block → false ≡ sound_lists sizes issued block
   unfolding sound_lists
   not-whole e = rw (faulty_whole sizes block e) refl
 
-  module _ (ones : ℕ) (finds : Intact ones ≡ whole_of sizes block) (clear : Bool) (answers : clear ≡ clear_lists sizes issued block) where
+  module _ (ones : ℕ) (finds : Some ones ≡ whole_of sizes block) (clear : Bool) (answers : clear ≡ clear_lists sizes issued block) where
     so_far : clear ≡ (whole_lists sizes block && clear_lists sizes issued block)
     so_far = second_decides (whole_lists sizes block) (clear_lists sizes issued block) true (sym (intact-whole sizes block ones finds)) refl clear answers
 

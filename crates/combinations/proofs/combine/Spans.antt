@@ -6,10 +6,9 @@ use native.Mathlib.Omega.{arith}
 use lib.ListN.{length, drop, replicate, length-replicate}
 use lib.Seq.{sets}
 use Rattle.words.specs.Words.{decode, encode}
-use Rattle.words.specs.Inner.{Alone, Takes, written, last_words}
-use Rattle.words.specs.declared.writer.Pending.{Pending}
-use Rattle.words.specs.declared.writer.Step.{Step}
-use Rattle.words.proofs.Writing.{Writing, begins, step_fits, step_on, last_fits, ends}
+use Rattle.words.specs.Inner.{Alone, no_run, last_words, Fits, Follows, Closes}
+use Rattle.words.specs.declared.writer.ListWriter.{ListWriter}
+use Rattle.words.proofs.Writing.{Writing, begins, push_fits, push_on, closes, ends}
 use Rattle.lists.specs.Combine.{Operation, on_group, combined}
 use Rattle.lists.specs.Inner.{Covers}
 use Rattle.combinations.specs.Inner.{remaining, shorter, Opened}
@@ -26,14 +25,14 @@ pub record Side (list : List ℕ) (groups done : ℕ) (at-hand : Span) : Type 0 
   pub near : at-hand.next ≤ length list
 
 -- the first `done` groups of both lists are combined and, but for what is pending, written
-pub record Combining (operation : Operation) (left right : List ℕ) (groups : ℕ) (out₀ out : List ℕ) (from-left from-right : Span)
-    (pending : Pending) (at done : ℕ) : Type 0 where
+pub record Combining (operation : Operation) (left right : List ℕ) (groups : ℕ) (out₀ : List ℕ) (list : ListWriter)
+    (from-left from-right : Span) (done : ℕ) : Type 0 where
   pub on_left : Side left groups done from-left
   pub on_right : Side right groups done from-right
-  pub few : pending.count ≤ done
+  pub few : list.pending.count ≤ done
   pub room : length (encode (combined operation (decode left) (decode right))) ≤ length out₀
   pub writing : Writing (combined operation (decode left) (decode right))
-      (combined operation (remaining left from-left) (remaining right from-right)) out₀ out at pending
+      (combined operation (remaining left from-left) (remaining right from-right)) out₀ list.out.now list.written list.pending
 
 -- no word is opened
 abbrev unopened : Span
@@ -42,16 +41,16 @@ unopened = record { group = 0; left = 0; next = 0 }
 side_begins : (groups : ℕ) (list : List ℕ) → Covers groups list → Side list groups 0 unopened
 side_begins groups list covers = record { long = omega (arith, covers.long); alone = λ none all. omega arith; small = omega arith; near = omega arith }
 
-pub combining_begins : (operation : Operation) (left right : List ℕ) (groups : ℕ) (out : List ℕ)
+pub combining_begins : (operation : Operation) (left right : List ℕ) (groups : ℕ) (out : List ℕ) (list : ListWriter)
     → Covers groups left → Covers groups right → length (encode (combined operation (decode left) (decode right))) ≤ length out
-    → Combining operation left right groups out out unopened unopened (record { bit = 0; count = 0 }) 0 0
-combining_begins operation left right groups out on_left on_right room =
+    → (list.out.now ≡ out) × (list.written ≡ 0) × (list.pending ≡ no_run) → Combining operation left right groups out list unopened unopened 0
+combining_begins operation left right groups out list on_left on_right room b =
     record {
       on_left = side_begins groups left on_left;
       on_right = side_begins groups right on_right;
-      few = omega arith;
+      few = rw b.2 (omega arith);
       room = room;
-      writing = begins (combined operation (decode left) (decode right)) out;
+      writing = rw (b.0, b.1, b.2) (begins (combined operation (decode left) (decode right)) out);
     }
 
 -- what a turn takes: a span of each list, the group that the two make, and as many of it as both spans have
@@ -71,8 +70,8 @@ side_on list groups done count at-hand opened side opens h =
       near = opens.near;
     }
 
-module _ {operation : Operation} {left right : List ℕ} {groups : ℕ} {out₀ out : List ℕ} {from-left from-right : Span} {pending : Pending} {at done : ℕ}
-    (k : Combining operation left right groups out₀ out from-left from-right pending at done) where
+module _ {operation : Operation} {left right : List ℕ} {groups : ℕ} {out₀ : List ℕ} {list : ListWriter} {from-left from-right : Span} {done : ℕ}
+    (k : Combining operation left right groups out₀ list from-left from-right done) where
   module _ {x y : Span} {group count : ℕ} (turn : Turn operation left right from-left from-right x y group count) where
     pub turn_some : 0 < count
     turn_some = omega (arith, turn.shortest, turn.opens_left.some, turn.opens_right.some)
@@ -97,30 +96,30 @@ module _ {operation : Operation} {left right : List ℕ} {groups : ℕ} {out₀ 
         (omega (arith, turn.shortest))
         (omega (arith, turn.shortest)))
 
-    module _ (step : Step) (t : Takes pending (replicate count group) step) where
-      pub turn_fits : at + step.words ≤ length out
-      turn_fits = step_fits k.writing k.room (replicate count group) _ step turn_groups t
+    pub turn_fits : groups ≤ 4096 → Fits (replicate count group) list
+    turn_fits limit =
+        push_fits k.writing k.room (replicate count group) _ turn_groups (omega (arith, k.few, turn_near, limit, length-replicate count group))
 
-      pub turn_on : Combining operation left right groups out₀ (sets out at (written step)) (shorter x count) (shorter y count)
-          step.pending (at + step.words) (done + count)
-      turn_on =
-          record {
-            on_left = side_on left groups done count from-left x k.on_left turn.opens_left (omega (arith, turn.shortest));
-            on_right = side_on right groups done count from-right y k.on_right turn.opens_right (omega (arith, turn.shortest));
-            few = omega (arith, t.grows, length-replicate count group, k.few);
-            room = k.room;
-            writing = step_on k.writing k.room (replicate count group) _ step turn_groups t;
-          }
+    pub turn_on : {further : ListWriter} → Follows (replicate count group) list further
+        → Combining operation left right groups out₀ further (shorter x count) (shorter y count) (done + count)
+    turn_on f =
+        record {
+          on_left = side_on left groups done count from-left x k.on_left turn.opens_left (omega (arith, turn.shortest));
+          on_right = side_on right groups done count from-right y k.on_right turn.opens_right (omega (arith, turn.shortest));
+          few = omega (arith, f.grows, length-replicate count group, k.few);
+          room = k.room;
+          writing = push_on k.writing k.room (replicate count group) _ turn_groups f;
+        }
 
   -- all groups are done
   module _ (all : groups ≤ done) where
     none_left : combined operation (remaining left from-left) (remaining right from-right) ≡ []
     none_left = combined-none operation (remaining left from-left) (remaining right from-right) (omega (arith, k.on_left.long))
 
-    pub end_fits : at + length (last_words pending) ≤ length out
-    end_fits = last_fits k.writing k.room none_left
+    pub end_fits : groups ≤ 4096 → Closes list
+    end_fits limit = closes k.writing k.room none_left (omega (arith, k.few, k.on_left.long, limit))
 
-    pub combining_ends : (at + length (last_words pending) ≡ length (encode (combined operation (decode left) (decode right))))
-        × (sets out at (last_words pending)
-        ≡ encode (combined operation (decode left) (decode right)) ++ drop (at + length (last_words pending)) out₀)
+    pub combining_ends : (list.written + length (last_words list.pending) ≡ length (encode (combined operation (decode left) (decode right))))
+        × (sets list.out.now list.written (last_words list.pending)
+        ≡ encode (combined operation (decode left) (decode right)) ++ drop (list.written + length (last_words list.pending)) out₀)
     combining_ends = ends k.writing k.room none_left

@@ -1,18 +1,18 @@
 -- Words of a list that are passed within the zeros of another: one word more, and what is written of them. Assumes nothing.
 use mathlib.Core.Path.{◌≡◌, refl, ◌∙◌, ap, sym}
 use mathlib.Core.Bool.{Bool, true, false, cond, and-eq-true_iff}
-use mathlib.Core.List.{List, [], ◌∷◌, ◌++◌, map, map-append, append_assoc, append-nil}
+use mathlib.Core.List.{List, [], ◌∷◌, ◌++◌, map, map-append}
 use Prim.Native.Nat.{ℕ, suc, zero, ◌+◌, ◌*◌, ◌-◌, ◌<◌, ◌≤◌}
 use native.Mathlib.Omega.{arith}
 use native.Mathlib.Nat.{add-zero, sub-zero}
-use lib.ListN.{length, get_or, take, drop, replicate, length-append, length-drop, length-replicate, drop_of_length-le}
-use lib.Seq.{sets, sets-eq, take-add, drop-drop, get_or-drop, length-take-le}
+use lib.ListN.{length, get_or, take, drop, replicate, length-append, length-drop, length-replicate}
+use lib.Seq.{take-add, take_all, take_at, drop-drop, drop_at, get_or-drop}
 use borrow.Author.Tests.{ne_eqb, eq-eqb}
 use Rattle.words.specs.Words.{all_ones, run_of, span, group_in, groups_in, decode, encode, no_fill, well_formed}
 use Rattle.words.specs.Inner.{after, last_words}
 use Rattle.words.specs.declared.writer.Pending.{Pending}
 use Rattle.words.proofs.Copied.{up_to, apart_words, ends_pending, copied_words}
-use Rattle.words.proofs.Forms.{run_at, bit_past, groups-append, decode_split, length_split, length_from, decode-from, word_left, form_split}
+use Rattle.words.proofs.Forms.{run_at, bit_past, groups-append, decode_split, length_split, length_from, length_upto, decode-from, word_left, form_split}
 use Rattle.words.proofs.Runs.{joins}
 use Rattle.words.proofs.Round.{Words, decode-groups}
 use Rattle.lists.specs.Combine.{exclusive, on_group, combined}
@@ -35,20 +35,48 @@ pub next-few : (list : List ℕ) (zeros : ℕ) (reach : Reach) → Reaches list 
     → reach.groups + span (run_at list reach.words) ≤ length (decode list)
 next-few list zeros reach r = omega (arith, r.counts, length_split list reach.words, length_from list reach.words r.inside)
 
--- so many words more, as they are lent
-pub covered_upto : (list : List ℕ) (words more : ℕ)
-    → length (decode (take (words + more) list)) ≡ length (decode (take words list)) + length (decode (take (words + more - words) (drop words list)))
-covered_upto list words more =
-    let count : words + more - words ≡ more = omega arith in
-    let front = take words list in
-    let next = take more (drop words list) in
-    rw (count, take-add words more list)
-    (ap length (ap groups_in (map-append run_of front next) ∙ groups-append (map run_of front) (map run_of next)) ∙ length-append (decode front) (decode next))
+-- the next words of a list behind those passed, so many of them, and the words left after them
+pub record Next (list : List ℕ) (words count : ℕ) (next left : List ℕ) : Type 0 where
+  pub parts : drop words list ≡ next ++ left
+  pub long : length next ≡ count
+
+pub next_of : (list : List ℕ) (words : ℕ) {next left behind : List ℕ} {size count : ℕ} → behind ≡ drop words list → size ≡ count
+    → (behind ≡ next ++ left) × (length next ≡ size) → Next list words count next left
+next_of list words b s c = record { parts = sym b ∙ c.0; long = c.1 ∙ s }
+
+module _ {list next left : List ℕ} {words count : ℕ} (n : Next list words count next left) where
+  next_words : take count (drop words list) ≡ next
+  next_words = rw n.parts (take_at next left count n.long)
+
+  pub left_behind : left ≡ drop (words + count) list
+  left_behind = sym (sym (drop-drop count words list) ∙ ap (drop count) n.parts ∙ drop_at next left count n.long)
+
+  pub covered_upto : length (decode (take (words + count) list)) ≡ length (decode (take words list)) + length (decode next)
+  covered_upto =
+      let front = take words list in
+      rw (take-add words count list, next_words)
+      (ap length (ap groups_in (map-append run_of front next) ∙ groups-append (map run_of front) (map run_of next)) ∙ length-append (decode front) (decode next))
+
+-- the words from a place on, as they are lent
+pub all-behind : (list : List ℕ) (place : ℕ) → take (length list - place) (drop place list) ≡ drop place list
+all-behind list place = take_all (length list - place) (drop place list) (omega (arith, length-drop place list))
+
+-- the span of one of them is that of the word at its place
+pub span_behind : (list : List ℕ) (from i : ℕ) {count place : ℕ} → count ≡ span (run_of (get_or (take (length list - from) (drop from list)) i 0))
+    → place ≡ from + i → count ≡ span (run_at list place)
+span_behind list from i e p = rw (p, ← get_or-drop from list i 0, ← all-behind list from) e
 
 -- words that cover fewer groups than the zeros
 pub reaches : (list : List ℕ) (zeros words groups : ℕ) → zeros ≤ length (decode list) → groups ≡ length (decode (take words list)) → groups < zeros
     → Reaches list zeros (record { words = words; groups = groups })
 reaches list zeros words groups most e h = record { inside = not_all list words (omega (arith, e)); counts = e; within = h }
+
+-- the words passed reach so far with the next word too, where that ends in front of the last of the zeros
+pub one-more : (list : List ℕ) (zeros : ℕ) (reach : Reach) (count : ℕ) → zeros ≤ length (decode list)
+    → Reaches list zeros reach → count ≡ span (run_at list reach.words) → reach.groups + count < zeros
+    → Reaches list zeros (record { words = reach.words + 1; groups = reach.groups + count })
+one-more list zeros reach count most r e h =
+    reaches list zeros (reach.words + 1) (reach.groups + count) most (omega (arith, e, r.counts, length_upto list reach.words r.inside)) h
 
 -- ---- what is written of them
 
@@ -172,32 +200,3 @@ module _ (list : List ℕ) (from other : Span) (pending : Pending) (is_bit : pen
           are_bits = (is_bit, omega arith);
           shrinks = (omega arith, omega arith);
         }
-
--- ---- the copy
-
--- what is left of an output of which a part was lent for a copy of a part of a list
-module _ (list out : List ℕ) (from words at : ℕ) (inside : from + words ≤ length list) (fits : at + words ≤ length out) where
-  abbrev copied_part : List ℕ
-  copied_part = take (from + words - from) (drop from list)
-
-  abbrev lent_part : List ℕ
-  lent_part = take (at + words - at) (drop at out)
-
-  part_long : length copied_part ≡ words
-  part_long = length-take-le (from + words - from) (drop from list) (omega (arith, length-drop from list)) ∙ omega arith
-
-  lent_long : length lent_part ≡ words
-  lent_long = length-take-le (at + words - at) (drop at out) (omega (arith, length-drop at out)) ∙ omega arith
-
-  pub part_copied : (made : List ℕ) → made ≡ copied_part ++ drop (length copied_part) lent_part
-      → take at out ++ (made ++ drop (at + words - at) (drop at out)) ≡ sets out at (take words (drop from list))
-  part_copied made m =
-      let none = drop_of_length-le lent_part {i = length copied_part} (omega (arith, part_long, lent_long)) in
-      let whole : made ≡ copied_part = m ∙ ap (◌++◌ copied_part) none ∙ append-nil copied_part in
-      let count : from + words - from ≡ words = omega arith in
-      let more : at + words - at ≡ words = omega arith in
-      let long : length (take words (drop from list)) ≡ words = ap (λ (n : ℕ). length (take n (drop from list))) (sym count) ∙ part_long in
-      rw (whole, more, count, drop-drop words at out)
-      (sym (append_assoc (take at out) (take words (drop from list)) (drop (at + words) out))
-      ∙ ap (λ (n : ℕ). take at out ++ take words (drop from list) ++ drop (at + n) out) (sym long)
-      ∙ sym (sets-eq (take words (drop from list)) out at (omega (arith, long))))

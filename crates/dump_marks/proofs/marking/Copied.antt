@@ -1,19 +1,11 @@
--- Rows copied to their places: one by one, and part by part. Assumes nothing.
+-- Rows copied to their places, part by part. Assumes nothing.
 use mathlib.Core.Path.{◌≡◌, refl, ◌∙◌, ap}
 use mathlib.Core.List.{List, ◌++◌, append-nil}
-use Prim.Native.Nat.{ℕ, ◌+◌, ◌-◌, ◌<◌, ◌≤◌}
-use native.Mathlib.Numerals.{add-one}
+use Prim.Native.Nat.{ℕ, ◌+◌, ◌-◌, ◌≤◌}
 use native.Mathlib.Omega.{arith}
-use lib.ListN.{length, take, drop, get_or, set, length-drop, drop_of_length-le}
-use lib.Seq.{paste, paste-suc, get_or-drop, take_all, take_at, drop_at, take-add, take-take, take-append-le, length-take-le}
+use lib.ListN.{length, take, drop, drop_of_length-le}
+use lib.Seq.{paste, take_all, take_at, drop_at, take-add, take-take, take-append-le, length-take-le}
 use Rattle.groups.proofs.Sets.{drop_further}
-
-module _ (from old now : List ℕ) (first i : ℕ) (done : now ≡ paste old first (drop first from) i) where
-  pub copies : first + i < length from → first + i < length old
-      → set now (first + i) (get_or from (first + i) 0) ≡ paste old first (drop first from) (i + 1)
-  copies inside room =
-      let more : i < length (drop first from) = omega (arith, length-drop first from) in
-      rw (done, ← get_or-drop first from i 0, add-one) (paste-suc old first (drop first from) i 0 room more)
 
 -- the first k rows are copied
 abbrev Copied : List ℕ → List ℕ → List ℕ → ℕ → Type 0

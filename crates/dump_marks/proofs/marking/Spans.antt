@@ -1,4 +1,5 @@
 -- Spans of groups: two that meet, readings that agree, and groups that all have the same bits. Assumes nothing.
+use Rattle.std.specs.Prelude.{Option, None}
 use mathlib.Core.Path.{◌≡◌, refl, ◌∙◌, ap}
 use mathlib.Core.Bool.{Bool, true, false, ◌&&◌, and-true, and-false}
 use mathlib.Core.List.{List, ◌++◌}
@@ -12,10 +13,10 @@ use borrow.Author.Tests.{lt-ltb, le-ltb, le-leb, lt-leb, leb-true, ltb-true, ltb
 use borrow.Rule.Slice.PartMut.{mid_of, post_of, put_mid, mid_len, put_same}
 use Rattle.dump_marks.specs.Inner.{each_row, every_row, free_in_group, marked_in_group, free_in_reading, marked_in_reading, in_span, free_in_groups, marked_in_groups, groups_hold, groups_marked, alike}
 use Rattle.block_read.specs.declared.read.Reading.{Reading}
-use Rattle.block_read.specs.declared.read.Reading.TheVariants.{Group, Broken}
+use Rattle.block_read.proofs.Readings.{read_as}
 use Rattle.dump_marks.proofs.EachRow.{each_append, each_keeps, each_agrees, each_then, every_append, every_agrees, each_every, every_fails, every_then}
 
-module _ (reading : ℕ → Reading) (issued : ℕ) where
+module _ (reading : ℕ → Option Reading) (issued : ℕ) where
   -- ---- no group
 
   module _ (from : ℕ) (rows : List ℕ) where
@@ -95,7 +96,7 @@ module _ (reading : ℕ → Reading) (issued : ℕ) where
         rw (le-leb from (row / 31) (omega arith), lt-ltb (row / 31) to (omega arith), lt-ltb row issued (omega arith)) refl
 
     -- its first read is broken
-    pub holds_broken : (rows : List ℕ) → from < to → from * 31 < issued → issued ≤ length rows → reading from ≡ Broken
+    pub holds_broken : (rows : List ℕ) → from < to → from * 31 < issued → issued ≤ length rows → reading from ≡ None
         → groups_hold reading from to issued rows ≡ false
     unfolding groups_hold
     holds_broken rows more some room broken = every_fails (free_in_groups reading from to issued) 0 rows (from * 31) (omega arith) fails
@@ -109,18 +110,18 @@ module _ (reading : ℕ → Reading) (issued : ℕ) where
 -- ---- readings that agree
 
 -- two readings say the same of each row and make the same of its byte
-abbrev pub Agree : Reading → Reading → Type 0
+abbrev pub Agree : Option Reading → Option Reading → Type 0
 Agree one other = (row byte : ℕ) → (free_in_reading one row byte ≡ free_in_reading other row byte)
     × ((value : ℕ) → marked_in_reading one value row byte ≡ marked_in_reading other value row byte)
 
-pub agree_same : (one other : Reading) → one ≡ other → Agree one other
+pub agree_same : (one other : Option Reading) → one ≡ other → Agree one other
 agree_same one other same row byte = rw same (refl, λ value. refl)
 
 -- the words opened say nothing of a row
-pub agree_bits : (one : Reading) (bits opened more : ℕ) → one ≡ Group bits opened → Agree one (Group bits more)
+pub agree_bits : (one : Option Reading) (bits opened more : ℕ) → one ≡ read_as bits opened → Agree one (read_as bits more)
 agree_bits one bits opened more read row byte = rw read (refl, λ value. refl)
 
-module _ (reading other : ℕ → Reading) (from to issued : ℕ) (agree : (group : ℕ) → from ≤ group → group < to → Agree (reading group) (other group)) where
+module _ (reading other : ℕ → Option Reading) (from to issued : ℕ) (agree : (group : ℕ) → from ≤ group → group < to → Agree (reading group) (other group)) where
   agrees : (row byte : ℕ) → (free_in_groups reading from to issued row byte ≡ free_in_groups other from to issued row byte)
       × ((value : ℕ) → marked_in_groups reading from to issued value row byte ≡ marked_in_groups other from to issued value row byte)
   agrees row byte = go (leb from (row / 31)) (ltb (row / 31) to) refl refl

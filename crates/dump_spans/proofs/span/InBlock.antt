@@ -1,4 +1,5 @@
 -- A span of a block's groups: when the reads are broken, and when they are the walks over the two lists. Assumes nothing.
+use Rattle.std.specs.Prelude.{Some, Option, None}
 use mathlib.Core.Path.{◌≡◌, refl, ◌∙◌, sym}
 use mathlib.Core.Bool.{Bool, true, false}
 use mathlib.Core.List.{List}
@@ -12,7 +13,6 @@ use Rattle.blocks.specs.declared.sizes.Sizes.{Sizes}
 use Rattle.block_read.specs.Read.{joined, read_value, read_group}
 use Rattle.block_read.specs.declared.fence.Fence.{Fence}
 use Rattle.block_read.specs.declared.read.Reading.{Reading}
-use Rattle.block_read.specs.declared.read.Reading.TheVariants.{Group, Broken}
 use Rattle.block_read.proofs.read.Exits.{update_long, update_walked, value_long, value_misplaced, value_walked}
 use Rattle.dump_marks.specs.Inner.{groups_hold, groups_marked}
 use Rattle.dump_marks.proofs.marking.Spans.{Agree, agree_same, holds_agree, marked_agree}
@@ -20,12 +20,12 @@ use Rattle.dump_spans.specs.Inner.{in_lists, in_block, span_holds, span_marked}
 use Rattle.dump_spans.specs.declared.span.Span.{Span}
 use Rattle.dump_spans.proofs.span.Spanning.{Spanned, begin, ends, breaks_at}
 
-joined_broken : (reading : Reading) → joined reading Broken ≡ Broken
-joined_broken (Group bits opened) = refl
-joined_broken Broken = refl
+joined_broken : (reading : Option Reading) → joined reading None ≡ None
+joined_broken (Some value) = refl
+joined_broken None = refl
 
 module _ (sizes : Sizes) (fence : Fence) (block : List ℕ) (span : Span) (rows : List ℕ) where
-  abbrev reads : ℕ → Reading
+  abbrev reads : ℕ → Option Reading
   reads = in_block sizes fence block
 
   -- what the span answers and leaves, as the contract has it
@@ -47,7 +47,7 @@ module _ (sizes : Sizes) (fence : Fence) (block : List ℕ) (span : Span) (rows 
   -- ---- damage
 
   module _ (more : span.from < span.to) (on : span.to ≤ groups_for span.issued) (room : span.issued ≤ length rows) where
-    broken : reads span.from ≡ Broken → Told rows false
+    broken : reads span.from ≡ None → Told rows false
     broken e =
         let none = begin reads span.issued span.value span.from span.to rows (omega arith) in
         told rows false (breaks_at reads span.issued span.value none more (omega arith) room e)
@@ -69,13 +69,13 @@ module _ (sizes : Sizes) (fence : Fence) (block : List ℕ) (span : Span) (rows 
   module _ (short : value_length block ≤ value_room sizes) (inside : fence.place < value_length block) (few : update_length block ≤ update_room sizes)
       (list update : List ℕ) (value_is : list ≡ value_list sizes block) (update-is : update ≡ update_list sizes block) where
     -- V from the fence's word on, and U
-    abbrev walks : ℕ → Reading
+    abbrev walks : ℕ → Option Reading
     walks = in_lists sizes (take (length list - fence.place) (drop fence.place list)) update fence.first
 
     walked : (group : ℕ) → reads group ≡ walks group
     unfolding read_group
     walked group =
-        rw (value_walked sizes block group fence short inside list value_is, update_walked sizes block group few update update-is (update_room sizes) refl)
+        rw (value_walked sizes block group fence short inside list value_is sizes.spacing refl, update_walked sizes block group few update update-is (update_room sizes) refl)
         refl
 
     agree : (group : ℕ) → span.from ≤ group → group < span.to → Agree (reads group) (walks group)

@@ -1,4 +1,5 @@
 -- The words of V and of U that cover a group say what the groups behind it have, as far as both cover them. Assumes nothing.
+use Rattle.std.specs.Prelude.{Some, None}
 use mathlib.Core.Path.{◌≡◌, refl, ◌∙◌, ap, sym}
 use mathlib.Core.Bool.{Bool}
 use mathlib.Core.List.{List, [], ◌∷◌}
@@ -9,17 +10,16 @@ use Rattle.words.specs.Words.{run_of, group_in}
 use Rattle.lists.specs.Combine.{exclusive}
 use Rattle.list_walk.specs.Walk.{walk_to}
 use Rattle.list_walk.specs.declared.walk.Covering.{Covering}
-use Rattle.list_walk.specs.declared.walk.Walk.TheVariants.{Covered, Damaged}
 use Rattle.lists.proofs.Covering.{word_small}
 use Rattle.list_walk.proofs.Onward.{on_same}
 use Rattle.lists.proofs.Operations.{exclusive_bits, xor-on_group, on_group-lt}
 use Rattle.blocks.specs.Sizes.{update_room}
 use Rattle.blocks.specs.declared.sizes.Sizes.{Sizes}
-use Rattle.block_read.specs.declared.read.Reading.TheVariants.{Group, Broken}
 use Rattle.dump_spans.specs.Inner.{in_lists}
 use Rattle.dump_marks.specs.Inner.{alike}
 use Rattle.dump_marks.proofs.marking.Spans.{Agree, agree_bits, holds_agree, marked_agree}
 use Rattle.dump_spans.proofs.span.Spanning.{Spanned}
+use Rattle.block_read.proofs.Readings.{read_as}
 
 -- the bits of the groups that two words cover
 abbrev pub bits_of_both : Covering → Covering → ℕ
@@ -37,11 +37,11 @@ bits_small v u =
 module _ (sizes : Sizes) (list update : List ℕ) (first : ℕ) where
   -- ---- damage
 
-  pub value_broken : (group : ℕ) → walk_to list first group sizes.spacing ≡ Damaged → in_lists sizes list update first group ≡ Broken
+  pub value_broken : (group : ℕ) → walk_to list first group sizes.spacing ≡ None → in_lists sizes list update first group ≡ None
   value_broken group e = rw e refl
 
-  pub update_broken : (group : ℕ) (v : Covering) → walk_to list first group sizes.spacing ≡ Covered v → walk_to update 0 group (update_room sizes) ≡ Damaged
-      → in_lists sizes list update first group ≡ Broken
+  pub update_broken : (group : ℕ) (v : Covering) → walk_to list first group sizes.spacing ≡ Some v → walk_to update 0 group (update_room sizes) ≡ None
+      → in_lists sizes list update first group ≡ None
   update_broken group v e d = rw (e, d) refl
 
   -- ---- both words are found
@@ -49,11 +49,11 @@ module _ (sizes : Sizes) (list update : List ℕ) (first : ℕ) where
   -- the words that cover a group before `to`
   pub record Reached (to group : ℕ) (v u : Covering) : Type 0 where
     pub more : group < to
-    pub value_found : walk_to list first group sizes.spacing ≡ Covered v
-    pub update_found : walk_to update 0 group (update_room sizes) ≡ Covered u
+    pub value_found : walk_to list first group sizes.spacing ≡ Some v
+    pub update_found : walk_to update 0 group (update_room sizes) ≡ Some u
 
   module _ {to group : ℕ} {v u : Covering} (r : Reached to group v u) where
-    same_bits : (k : ℕ) → k ≤ v.beyond → k ≤ u.beyond → in_lists sizes list update first (group + k) ≡ Group (bits_of_both v u) (v.opened + u.opened)
+    same_bits : (k : ℕ) → k ≤ v.beyond → k ≤ u.beyond → in_lists sizes list update first (group + k) ≡ read_as (bits_of_both v u) (v.opened + u.opened)
     same_bits k p q =
         rw (
           on_same list first group sizes.spacing v r.value_found k p,

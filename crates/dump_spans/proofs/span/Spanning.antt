@@ -1,4 +1,5 @@
 -- The loop over the groups of a span: those before the next one are marked. Assumes nothing.
+use Rattle.std.specs.Prelude.{Option, None}
 use mathlib.Core.Path.{◌≡◌, refl, ◌∙◌, ap, sym}
 use mathlib.Core.Bool.{Bool, true, false, false≢true}
 use mathlib.Core.List.{List}
@@ -7,11 +8,10 @@ use native.Mathlib.Omega.{arith}
 use lib.ListN.{length}
 use Rattle.dump_marks.specs.Inner.{marked_in_groups, groups_hold, groups_marked}
 use Rattle.block_read.specs.declared.read.Reading.{Reading}
-use Rattle.block_read.specs.declared.read.Reading.TheVariants.{Broken}
 use Rattle.dump_marks.proofs.EachRow.{length_each}
 use Rattle.dump_marks.proofs.marking.Spans.{holds_none, marked_none, holds_join, marked_join, holds_broken}
 
-module _ (reading : ℕ → Reading) (issued value : ℕ) where
+module _ (reading : ℕ → Option Reading) (issued value : ℕ) where
   -- what a span answers and leaves
   abbrev pub Spanned : ℕ → ℕ → List ℕ → List ℕ → Bool → Type 0
   Spanned from to rows₀ rows r =
@@ -67,7 +67,7 @@ module _ (reading : ℕ → Reading) (issued value : ℕ) where
       )
 
     -- the next group is not read
-    pub breaks_at : group < to → group * 31 < issued → issued ≤ length rows → reading group ≡ Broken → Spanned from to rows₀ rows false
+    pub breaks_at : group < to → group * 31 < issued → issued ≤ length rows → reading group ≡ None → Spanned from to rows₀ rows false
     breaks_at more some room broken = (
       sym (upto to (omega arith) ∙ holds_broken reading issued group to rows more some room broken),
       λ yes. absurd (false≢true yes),

@@ -2,12 +2,14 @@
 use mathlib.Core.Path.{◌≡◌, refl, sym, ap, ◌∙◌}
 use mathlib.Core.Bool.{Bool, true, false}
 use mathlib.Core.List.{List}
-use Prim.Native.Nat.{ℕ, ◌+◌, ◌*◌, ◌<◌, ◌≤◌, ◌^◌}
+use Prim.Native.Nat.{ℕ, ◌+◌, ◌-◌, ◌*◌, ◌<◌, ◌≤◌}
+use native.Mathlib.Nat.{div-mul-le_self}
 use native.Mathlib.Omega.{arith}
-use lib.ListN.{length, get_or}
+use lib.ListN.{length, get_or, take, drop}
 use Rattle.groups.specs.Rows.{row_limit, groups_for}
-use Rattle.blocks.specs.Sizes.{block_size, fences_for}
-use Rattle.blocks.specs.Inner.{Limits}
+use Rattle.blocks.specs.Sizes.{block_size, fences_for, fence_count}
+use Rattle.blocks.specs.Block.{part}
+use Rattle.blocks.proofs.Parts.{part_slice, length_part, get_d_part}
 use Rattle.memory.specs.Inner.{Planned}
 use Rattle.dump_spans.specs.Inner.{fence_holds, fence_marked, fence_number, fences_hold, marked_fences, values_hold, marked_values}
 use Rattle.memory.specs.Fences.{no_fence}
@@ -16,7 +18,8 @@ use Rattle.memory.specs.declared.header.Header.{Header}
 use Rattle.block_read.specs.declared.fence.Fence.{Fence}
 use Rattle.blocks.specs.declared.sizes.Sizes.{Sizes}
 use Rattle.fence_records.proofs.Visits.{next_fence_holds, next_fence_marked, fences_stop, next-value_holds, next-value_marked, values_stop}
-use Rattle.memory.proofs.Places.{numbers, fenced, fences_bound}
+use Rattle.std.proofs.lemmas.Nat.{le-div}
+use Rattle.memory.proofs.Places.{numbers, fenced}
 
 not_true : {P : Type 0} → false ≡ true → P
 not_true e = absurd (let z : ◌≡◌ {A = ℕ} 0 1 = cc in omega arith)
@@ -42,24 +45,47 @@ module _ {header : Header} {sizes : Sizes} (words : List ℕ) (fences : List Fen
   pub count_asks : (header.issued ≤ row_limit) × (1 ≤ header.spacing) × (header.spacing ≤ 256)
   count_asks = (omega (arith, (numbers is).few_issued, (numbers is).few_rows), (numbers is).some_spacing, (numbers is).few_spacing)
 
+  -- a value has no fewer: the rows issued are no more than all
+  few_visits : count ≤ fence_count sizes
+  unfolding fences_for
+  few_visits =
+      let more = header.spacing - 1 in
+      rw is.planned
+      (le-div count (groups_for header.rows + more) header.spacing (numbers is).some_spacing
+      (omega (arith, div-mul-le_self (groups_for header.issued + more) header.spacing, (numbers is).few_issued)))
+
   -- ---- the fences of a value
 
   module _ (value : ℕ) (below : value < header.values) (rows : List ℕ) (room : header.issued ≤ length rows) where
     pub none_visited : FencesSeen header memory value rows 0 rows
     none_visited = record { hold = refl; marked = refl }
 
-    pub first_fits : value * sizes.fences < 2 ^ 64
-    first_fits = omega (arith, fences_bound is value below)
+    module _ (visits : ℕ) (are : (visits ≡ count) × (visits ≤ 4096)) {each : ℕ} (counted : each ≡ fence_count sizes) where
+      -- the records of the fences to visit, a part of those lent
+      abbrev at : ℕ
+      at = value * each
 
-    module _ (visits : ℕ) (are : (visits ≡ count) × (visits ≤ 4096)) (j : ℕ) (less : j < visits) where
-      pub fence_fits : value * sizes.fences + j < 2 ^ 64
-      fence_fits = omega (arith, fences_bound is value below, are.1, less)
+      abbrev visited : List Fence
+      visited = take (at + visits - at) (drop at fences)
 
-      module _ (now : List ℕ) (many : length now ≡ length rows) where
-        pub fence_asks : Limits sizes × (value * block_size sizes + block_size sizes ≤ length words) × (value < 256) × (header.issued ≤ sizes.rows) × (header.issued ≤ length now)
+      pub visits_fit : at + visits ≤ length fences
+      visits_fit =
+          let place : at ≡ value * fence_count sizes = ap (◌*◌ value) counted in
+          omega (arith, (fenced is value below).room, place, few_visits, are.0)
+
+      visited_part : visited ≡ part fences at visits
+      visited_part = part_slice fences at visits at (at + visits) refl (omega arith)
+
+      visited_long : length visited ≡ visits
+      visited_long = rw visited_part (length_part fences at visits visits_fit)
+
+      module _ (j : ℕ) (inside : j < length visited) (now : List ℕ) (many : length now ≡ length rows) where
+        less : j < visits
+        less = omega (arith, visited_long)
+
+        pub fence_asks : (value * block_size sizes + block_size sizes ≤ length words) × (value < 256) × (header.issued ≤ sizes.rows) × (header.issued ≤ length now)
             × (j < fences_for (groups_for header.issued) sizes.spacing)
         fence_asks = (
-          (fenced is value below).limits,
           (fenced is value below).inside,
           omega (arith, below, (numbers is).few_values),
           rw is.planned (numbers is).few_issued,
@@ -67,12 +93,15 @@ module _ {header : Header} {sizes : Sizes} (words : List ℕ) (fences : List Fen
           rw is.planned (omega (arith, less, are.0)),
         )
 
-        module _ (seen : FencesSeen header memory value rows j now) (fence : Fence) (asked : fence ≡ get_or fences (value * sizes.fences + j) no_fence) (fine : Bool) (left : List ℕ)
-            (marks : (fine ≡ fence_holds sizes fence (block_at sizes words value) header.issued j now)
+        module _ (seen : FencesSeen header memory value rows j now) (fine : Bool) (left : List ℕ)
+            (marks : (fine ≡ fence_holds sizes (get_or visited j no_fence) (block_at sizes words value) header.issued j now)
             × (fine ≡ true
-            → left ≡ fence_marked sizes fence (block_at sizes words value) header.issued j value now)) where
+            → left ≡ fence_marked sizes (get_or visited j no_fence) (block_at sizes words value) header.issued j value now)) where
+          abbrev fence : Fence
+          fence = get_or visited j no_fence
+
           found : fence ≡ fence_number (sizes_of header) memory value j
-          found = asked ∙ rw is.planned refl
+          found = rw (visited_part, get_d_part fences at visits j no_fence less, counted) (rw is.planned refl)
 
           next : fences_hold header memory value rows (j + 1) ≡ fine
           next =
@@ -93,9 +122,11 @@ module _ {header : Header} {sizes : Sizes} (words : List ℕ) (fences : List Fen
             not_true,
           )
 
-    pub all_visited : (visits : ℕ) → visits ≡ count → (j : ℕ) → j ≡ visits → (now : List ℕ) → FencesSeen header memory value rows j now
-        → (true ≡ fences_hold header memory value rows count) × (true ≡ true → now ≡ marked_fences header memory value rows count)
-    all_visited visits are j all now seen = rw (← are, ← all) (sym seen.hold, λ e. seen.marked)
+      pub all_visited : (j : ℕ) → j ≤ length visited → length visited ≤ j → (now : List ℕ) → FencesSeen header memory value rows j now
+          → (true ≡ fences_hold header memory value rows count) × (true ≡ true → now ≡ marked_fences header memory value rows count)
+      all_visited j up all now seen =
+          let last : j ≡ visits = omega (arith, visited_long, up, all) in
+          rw (← are.0, ← last) (sym seen.hold, λ e. seen.marked)
 
   -- ---- the values
 

@@ -5,8 +5,7 @@ use Prim.Native.Nat.{ℕ, ◌+◌, ◌*◌, ◌-◌, ◌/◌, ◌%◌, ◌<◌, 
 use native.Mathlib.Nat.{div-le_self}
 use native.Mathlib.Omega.{arith}
 use lib.ListN.{length, get_or}
-use Rattle.blocks.specs.Sizes.{block_size}
-use Rattle.blocks.specs.Inner.{Limits}
+use Rattle.blocks.specs.Sizes.{block_size, fence_count}
 use Rattle.block_read.specs.Read.{read_group}
 use Rattle.memory.specs.Inner.{Planned}
 use Rattle.memory.specs.Fences.{no_fence}
@@ -38,21 +37,21 @@ module _ {header : Header} {sizes : Sizes} (words : List ℕ) (fences : List Fen
     module _ (found : Row) (before : found ≡ read_row sizes memory row value) where
       -- what the next read asks
       pub may_read : (mask : ℕ) → mask ≡ 2 ^ (30 - row % 31)
-          → Limits sizes × (value * block_size sizes + block_size sizes ≤ length words) × (mask ≡ 2 ^ (30 - row % 31)) × (found.holders < 64)
+          → (value * block_size sizes + block_size sizes ≤ length words) × (mask ≡ 2 ^ (30 - row % 31)) × (found.holders < 64)
           × (found.opened ≤ 48321)
       may_read mask is-mask =
           let fits = row_fits sizes memory row (limits is) value (omega (arith, below, (numbers is).few_values)) in
           let inside = fenced is value below in
-          rw before (inside.limits, inside.inside, is-mask, fits.0, fits.1)
+          rw before (inside.inside, is-mask, fits.0, fits.1)
 
       -- the round
       pub reads : (nearest : ℕ) → nearest ≡ row / 31 / sizes.spacing
-          → (fence : Fence) → fence ≡ get_or fences (value * sizes.fences + nearest) no_fence
+          → {each : ℕ} → each ≡ fence_count sizes → (fence : Fence) → fence ≡ get_or fences (value * each + nearest) no_fence
           → (after : Row)
           → after ≡ row_step row value found (read_group sizes fence (row / 31) (block_at sizes words value))
           → after ≡ read_row sizes memory row (value + 1)
       unfolding read_in fence_for
-      reads nearest near fence asked after read = rw (one_more value, ← before, read, asked, near, (limits is).fences_are) refl
+      reads nearest near counted fence asked after read = rw (one_more value, ← before, read, asked, near, counted) refl
 
   -- the row is read in all values
   pub all_read : (row value : ℕ) (found : Row) → found ≡ read_row sizes memory row value → value ≡ header.values → found ≡ row_of header memory row

@@ -1,4 +1,5 @@
 -- The exits of the calls that change nothing: each answer is the one that the checks, in their order, call for. Assumes nothing.
+use Rattle.std.specs.Prelude.{Ok, Result, Err}
 use mathlib.Core.Path.{◌≡◌, refl, sym, ap, ◌∙◌}
 use mathlib.Core.Bool.{true, not}
 use mathlib.Core.List.{List, [], ◌∷◌}
@@ -6,12 +7,9 @@ use Prim.Native.Nat.{ℕ, ◌+◌, ◌*◌, ◌≤◌}
 use lib.Dec.{ltb}
 use lib.ListN.{length}
 use Rattle.answers.specs.Outcome.{Check, ◌when◌, Gives}
-use Rattle.answers.specs.declared.Answer.{Answer}
-use Rattle.answers.specs.declared.Answer.TheVariants.{Refused}
 use Rattle.answers.specs.declared.Refusal.{Refusal}
 use Rattle.answers.specs.declared.Refusal.TheVariants.{Damaged, OutSmall}
 use Rattle.blocks.specs.Sizes.{block_size}
-use Rattle.blocks.specs.Inner.{Limits}
 use Rattle.blocks.specs.declared.sizes.Sizes.{Sizes}
 use Rattle.block_read.specs.declared.fence.Fence.{Fence}
 use Rattle.block_change.specs.Inner.{list_outcome}
@@ -20,7 +18,6 @@ use Rattle.memory.specs.Inner.{Planned, Fenced, entered_row}
 use Rattle.memory.specs.Memory.{Memory, memory_of, sizes_of, block_at, rows_in}
 use Rattle.memory.specs.Reading.{row_of, refused_value, value_of, value_paper}
 use Rattle.memory.specs.declared.header.Header.{Header}
-use Rattle.memory.specs.declared.entry.Entry.TheVariants.{Ready, Stop}
 use Rattle.memory.specs.declared.row.Row.{Row}
 use Rattle.memory.specs.declared.row.Value.{Value}
 use Rattle.memory.proofs.Deciding.{ready_enters, outcome_refuses, stop_refused, ready_goes_on}
@@ -37,7 +34,7 @@ module _ (words : List ℕ) (fences : List Fence) (header : Header) where
 
   -- ---- Value
 
-  module _ (row : ℕ) (sizes : Sizes) (ready : Ready sizes ≡ entered_row (length words) (length fences) header row) where
+  module _ (row : ℕ) (sizes : Sizes) (ready : Ok sizes ≡ entered_row (length words) (length fences) header row) where
     pub value_enters : Planned header sizes (length words) (length fences)
     value_enters = (ready_enters (length words) (length fences) header (missing header row ∷ []) sizes ready).planned
 
@@ -45,7 +42,7 @@ module _ (words : List ℕ) (fences : List Fence) (header : Header) where
         → value_paper answer ≡ value_outcome header memory row
     value_found found read answer gives = ap value_paper (gives ∙ ap value_of read) ∙ sym (ready_value header memory row sizes ready)
 
-  pub value_stops : (row : ℕ) (refusal : Refusal) → Stop refusal ≡ entered_row (length words) (length fences) header row
+  pub value_stops : (row : ℕ) (refusal : Refusal) → Err refusal ≡ entered_row (length words) (length fences) header row
       → (answer : Value) → answer ≡ refused_value refusal → value_paper answer ≡ value_outcome header memory row
   value_stops row refusal stop answer gives = ap value_paper gives ∙ sym (stop_value header memory row refusal stop)
 
@@ -55,7 +52,7 @@ module _ (words : List ℕ) (fences : List Fence) (header : Header) where
     abbrev pub whole-checks : List Check
     whole-checks = bad_value header value ∷ Damaged when not (whole (sizes_of header) words value) ∷ []
 
-    module _ (sizes : Sizes) (ready : Ready sizes ≡ entered_whole words (length fences) header value) where
+    module _ (sizes : Sizes) (ready : Ok sizes ≡ entered_whole words (length fences) header value) where
       enters : EntersWhole words (length fences) header value sizes
       enters = ready_whole words (length fences) header value sizes ready
 
@@ -72,16 +69,16 @@ module _ (words : List ℕ) (fences : List Fence) (header : Header) where
       abbrev behind : List Check
       behind = OutSmall when ltb (length out) (length (query_list header memory value)) ∷ []
 
-      pub query_stops : (refusal : Refusal) → Stop refusal ≡ entered_whole words (length fences) header value
-          → Gives (query_outcome header memory value out) (Refused refusal) out
+      pub query_stops : (refusal : Refusal) → Err refusal ≡ entered_whole words (length fences) header value
+          → Gives (query_outcome header memory value out) (Err refusal) out
       unfolding query_outcome entered_whole
       query_stops refusal stop =
           rw (stop_refused (length words) (length fences) header whole-checks (outcome_refuses (query_list header memory value) out) behind refusal stop)
           (record { answers = refl; leaves = refl })
 
-      module _ (sizes : Sizes) (ready : Ready sizes ≡ entered_whole words (length fences) header value) where
-        pub query_asks : Limits sizes × (value * block_size sizes + block_size sizes ≤ length words) × (whole sizes words value ≡ true)
-        query_asks = let asks = whole_asks sizes ready in (asks.0.limits, asks.0.inside, asks.1)
+      module _ (sizes : Sizes) (ready : Ok sizes ≡ entered_whole words (length fences) header value) where
+        pub query_asks : (value * block_size sizes + block_size sizes ≤ length words) × (whole sizes words value ≡ true)
+        query_asks = let asks = whole_asks sizes ready in (asks.0.inside, asks.1)
 
         -- the outcome is that of the value's own list
         same_outcome : list_outcome sizes (block_at sizes words value) out ≡ query_outcome header memory value out
@@ -91,6 +88,6 @@ module _ (words : List ℕ) (fences : List Fence) (header : Header) where
             (sym
             (ready_goes_on (length words) (length fences) header whole-checks (outcome_refuses (query_list header memory value) out) behind sizes ready))
 
-        pub query_listed : (answer : Answer) (left : List ℕ) → Gives (list_outcome sizes (block_at sizes words value) out) answer left
+        pub query_listed : (answer : Result ℕ Refusal) (left : List ℕ) → Gives (list_outcome sizes (block_at sizes words value) out) answer left
             → Gives (query_outcome header memory value out) answer left
         query_listed answer left gives = rw (← same_outcome) gives

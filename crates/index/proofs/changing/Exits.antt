@@ -1,4 +1,5 @@
 -- The exits of the calls that change rows: what is decided is carried out, and what is left is what the checks, in their order, call for. Assumes nothing.
+use Rattle.std.specs.Prelude.{Option, Some, None, Ok, Err}
 use mathlib.Core.Path.{◌≡◌, refl, sym, ap, ◌∙◌}
 use mathlib.Core.Bool.{Bool, true, false, not, cond, ◌&&◌}
 use mathlib.Core.List.{List, [], ◌∷◌}
@@ -19,7 +20,6 @@ use Rattle.memory.specs.Inner.{Planned, Fenced, refused_by, done_with}
 use Rattle.memory.specs.Memory.{Memory, memory_of, sizes_of, block_at}
 use Rattle.memory.specs.Outcomes.{After, made, Leaves}
 use Rattle.memory.specs.Reading.{row_of, is_damaged, is_deleted, is_free}
-use Rattle.memory.specs.declared.entry.Entry.TheVariants.{Ready, Stop}
 use Rattle.memory.specs.declared.header.Header.{Header}
 use Rattle.memory.specs.declared.header.Changed.{Changed}
 use Rattle.memory.proofs.Deciding.{Enters, passes_enters, change_refuses, stop_refused, ready_goes_on, refused_changes, decided_changes}
@@ -30,28 +30,10 @@ use Rattle.change_value.specs.Inner.{entered_whole}
 use Rattle.change_value.proofs.Changing.{Puts, whole_other, merges_other, flipped_puts}
 use Rattle.index.specs.Calls.{merge_after, insert_checks, insert_after, old_value, delete_checks, delete_after, update_checks, update_after}
 use Rattle.index.specs.Inner.{flips_in, insert_decision, delete_decision, moves_in, update_decision}
-use Rattle.index.specs.declared.deciding.Flipping.TheVariants.{Flips, Kept}
+use Rattle.index.specs.declared.deciding.Flipping.{Flipping}
 use Rattle.index.specs.declared.deciding.Moving.{Moving}
-use Rattle.index.specs.declared.deciding.Moving.TheVariants.{Moves, Same, Left}
 use Rattle.index.proofs.answering.Exits.{whole-checks, whole_planned}
 use Rattle.index.proofs.changing.Leaving.{refused_leaves, made_leaves}
-
--- ---- decisions told apart
-
-same_kept : (refusal other : Refusal) → Kept refusal ≡ Kept other → refusal ≡ other
-same_kept refusal other e = cc
-
-flips_kept : {sizes : Sizes} {value : ℕ} {merges : Bool} (refusal : Refusal) → Flips sizes value merges ≡ Kept refusal → ⊥
-flips_kept refusal e = let z : ◌≡◌ {A = ℕ} 0 1 = cc in omega arith
-
-same_left : (refusal other : Refusal) → Left refusal ≡ Left other → refusal ≡ other
-same_left refusal other e = cc
-
-same_not_left : (refusal : Refusal) → Same ≡ Left refusal → ⊥
-same_not_left refusal e = let z : ◌≡◌ {A = ℕ} 0 1 = cc in omega arith
-
-moves_left : {sizes : Sizes} {old : ℕ} {first second : Bool} (refusal : Refusal) → Moves sizes old first second ≡ Left refusal → ⊥
-moves_left refusal e = let z : ◌≡◌ {A = ℕ} 0 1 = cc in omega arith
 
 module _ (words : List ℕ) (fences : List Fence) (header : Header) where
   abbrev memory : Memory
@@ -63,14 +45,14 @@ module _ (words : List ℕ) (fences : List Fence) (header : Header) where
     abbrev merging : After
     merging = made 0 header (merged_in (sizes_of header) memory value)
 
-    pub merge_stops : (refusal : Refusal) → Stop refusal ≡ entered_whole words (length fences) header value
+    pub merge_stops : (refusal : Refusal) → Err refusal ≡ entered_whole words (length fences) header value
         → (changed : Changed) → changed ≡ refused_by header refusal → Leaves (merge_after header memory value) changed words fences
     unfolding merge_after entered_whole
     merge_stops refusal stop =
         refused_leaves header words fences refusal (merge_after header memory value)
         (stop_refused (length words) (length fences) header (whole-checks words fences header value) (change_refuses header memory merging) [] refusal stop)
 
-    module _ (sizes : Sizes) (ready : Ready sizes ≡ entered_whole words (length fences) header value) where
+    module _ (sizes : Sizes) (ready : Ok sizes ≡ entered_whole words (length fences) header value) where
       pub merge_done : (left : List ℕ) (remade : List Fence) → memory_of left remade ≡ merged_in sizes memory value
           → (changed : Changed) → changed ≡ done_with header 0 → Leaves (merge_after header memory value) changed left remade
       unfolding merge_after entered_whole
@@ -109,43 +91,36 @@ module _ (words : List ℕ) (fences : List Fence) (header : Header) where
     abbrev inserting : After
     inserting = made header.issued (grown header) (flipped_in (sizes_of header) memory value header.issued)
 
-    pub insert_kept : (refusal : Refusal) → Kept refusal ≡ insert_decision header memory value
+    pub insert_kept : (refusal : Refusal) → Err refusal ≡ insert_decision header memory value
         → (changed : Changed) → changed ≡ refused_by header refusal → Leaves (insert_after header memory value) changed words fences
     unfolding insert_decision insert_after
     insert_kept refusal kept =
         refused_leaves header words fences refusal (insert_after header memory value)
-        (refused_changes header memory inserting same_kept flips_kept (insert_checks header memory value) refusal kept)
+        (refused_changes header memory inserting (flips_in header memory value header.issued) (insert_checks header memory value) refusal kept)
 
-    module _ (sizes : Sizes) (into : ℕ) (merges : Bool) (flips : Flips sizes into merges ≡ insert_decision header memory value) where
-      inserts : (Flips sizes into merges ≡ flips_in header memory value header.issued) × (insert_after header memory value ≡ inserting)
+    module _ (flip : Flipping) (flips : Ok flip ≡ insert_decision header memory value) where
+      inserts : (flip ≡ flips_in header memory value header.issued) × (insert_after header memory value ≡ inserting)
           × Passes (insert_checks header memory value)
       unfolding insert_decision insert_after
-      inserts = decided_changes header memory inserting (insert_checks header memory value) (Flips sizes into merges) flips_kept flips
+      inserts = decided_changes header memory inserting (flips_in header memory value header.issued) (insert_checks header memory value) flip flips
 
       insert_enters : Enters (length words) (length fences) header insert_own (sizes_of header)
       insert_enters = passes_enters (length words) (length fences) header insert_own inserts.2
 
-      insert_sizes : sizes ≡ sizes_of header
-      insert_sizes = let same = inserts.0 in cc
-
-      insert_into : into ≡ value
-      insert_into = let same = inserts.0 in cc
-
       pub spare_row : header.issued < header.rows
       spare_row = leb-false header.rows header.issued insert_enters.passes.1.0
 
-      pub insert_asks : Asks sizes into header.issued merges
+      pub insert_asks : Asks flip.sizes flip.value header.issued flip.merges
       insert_asks =
-          let same = inserts.0 in
-          rw (insert_sizes, insert_into)
-          (asks insert_enters.planned value header.issued merges (leb-false header.values value insert_enters.passes.0) spare_row
-          (not-false (whole (sizes_of header) words value) insert_enters.passes.1.1.1.0) cc)
+          rw inserts.0
+          (asks insert_enters.planned value header.issued _ (leb-false header.values value insert_enters.passes.0) spare_row
+          (not-false (whole (sizes_of header) words value) insert_enters.passes.1.1.1.0) refl)
 
-      pub insert_done : (left : List ℕ) (remade : List Fence) → memory_of left remade ≡ flipped_in sizes memory into header.issued
+      pub insert_done : (left : List ℕ) (remade : List Fence) → memory_of left remade ≡ flipped_in flip.sizes memory flip.value header.issued
           → (changed : Changed) → changed ≡ done_with (grown header) header.issued → Leaves (insert_after header memory value) changed left remade
       insert_done left remade turned changed gives =
           made_leaves (grown header) header.issued (flipped_in (sizes_of header) memory value header.issued) (insert_after header memory value)
-          inserts.1 changed gives left remade (rw (insert_sizes, insert_into) at turned)
+          inserts.1 changed gives left remade (rw inserts.0 at turned)
 
   module _ (row : ℕ) where
     abbrev old_value_lem : ℕ
@@ -171,41 +146,34 @@ module _ (words : List ℕ) (fences : List Fence) (header : Header) where
     abbrev deleting : After
     deleting = made 0 header (flipped_in (sizes_of header) memory old_value_lem row)
 
-    pub delete_kept : (refusal : Refusal) → Kept refusal ≡ delete_decision header memory row
+    pub delete_kept : (refusal : Refusal) → Err refusal ≡ delete_decision header memory row
         → (changed : Changed) → changed ≡ refused_by header refusal → Leaves (delete_after header memory row) changed words fences
     unfolding delete_decision delete_after
     delete_kept refusal kept =
         refused_leaves header words fences refusal (delete_after header memory row)
-        (refused_changes header memory deleting same_kept flips_kept (delete_checks header memory row) refusal kept)
+        (refused_changes header memory deleting (flips_in header memory old_value_lem row) (delete_checks header memory row) refusal kept)
 
-    module _ (sizes : Sizes) (from : ℕ) (merges : Bool) (flips : Flips sizes from merges ≡ delete_decision header memory row) where
-      deletes : (Flips sizes from merges ≡ flips_in header memory old_value_lem row) × (delete_after header memory row ≡ deleting)
+    module _ (flip : Flipping) (flips : Ok flip ≡ delete_decision header memory row) where
+      deletes : (flip ≡ flips_in header memory old_value_lem row) × (delete_after header memory row ≡ deleting)
           × Passes (delete_checks header memory row)
       unfolding delete_decision delete_after
-      deletes = decided_changes header memory deleting (delete_checks header memory row) (Flips sizes from merges) flips_kept flips
+      deletes = decided_changes header memory deleting (flips_in header memory old_value_lem row) (delete_checks header memory row) flip flips
 
       delete_enters : Enters (length words) (length fences) header delete_own (sizes_of header)
       delete_enters = passes_enters (length words) (length fences) header delete_own deletes.2
 
-      delete_sizes : sizes ≡ sizes_of header
-      delete_sizes = let same = deletes.0 in cc
-
-      delete_from : from ≡ old_value_lem
-      delete_from = let same = deletes.0 in cc
-
-      pub delete_asks : Asks sizes from row merges
+      pub delete_asks : Asks flip.sizes flip.value row flip.merges
       delete_asks =
-          let same = deletes.0 in
-          rw (delete_sizes, delete_from)
-          (asks delete_enters.planned old_value_lem row merges (old_below delete_enters.passes.1.1.0)
+          rw deletes.0
+          (asks delete_enters.planned old_value_lem row _ (old_below delete_enters.passes.1.1.0)
           (omega (arith, leb-false header.issued row delete_enters.passes.0, (numbers delete_enters.planned).few_issued))
-          (not-false (whole (sizes_of header) words old_value_lem) delete_enters.passes.1.1.1.0) cc)
+          (not-false (whole (sizes_of header) words old_value_lem) delete_enters.passes.1.1.1.0) refl)
 
-      pub delete_done : (left : List ℕ) (remade : List Fence) → memory_of left remade ≡ flipped_in sizes memory from row
+      pub delete_done : (left : List ℕ) (remade : List Fence) → memory_of left remade ≡ flipped_in flip.sizes memory flip.value row
           → (changed : Changed) → changed ≡ done_with header 0 → Leaves (delete_after header memory row) changed left remade
       delete_done left remade turned changed gives =
           made_leaves header 0 (flipped_in (sizes_of header) memory old_value_lem row) (delete_after header memory row)
-          deletes.1 changed gives left remade (rw (delete_sizes, delete_from) at turned)
+          deletes.1 changed gives left remade (rw deletes.0 at turned)
 
     -- ---- Update
 
@@ -225,61 +193,51 @@ module _ (words : List ℕ) (fences : List Fence) (header : Header) where
       abbrev updating : After
       updating = cond (eqb old_value_lem value) (made 0 header memory) (made 0 header moved)
 
-      abbrev updates : Moving
-      updates = cond (eqb old_value_lem value) Same (moves_in header memory old_value_lem value row)
+      abbrev updates : Option Moving
+      updates = cond (eqb old_value_lem value) None (Some (moves_in header memory old_value_lem value row))
 
-      not_left : (refusal : Refusal) → updates ≡ Left refusal → ⊥
-      not_left refusal = go (eqb old_value_lem value)
-        where
-          go : (same : Bool) → cond same Same (moves_in header memory old_value_lem value row) ≡ Left refusal → ⊥
-          go true e = same_not_left refusal e
-          go false e = moves_left refusal e
-
-      pub update_kept : (refusal : Refusal) → Left refusal ≡ update_decision header memory row value
+      pub update_kept : (refusal : Refusal) → Err refusal ≡ update_decision header memory row value
           → (changed : Changed) → changed ≡ refused_by header refusal → Leaves (update_after header memory row value) changed words fences
       unfolding update_decision update_after
       update_kept refusal kept =
           refused_leaves header words fences refusal (update_after header memory row value)
-          (refused_changes header memory updating same_left not_left (update_checks header memory row value) refusal kept)
+          (refused_changes header memory updating updates (update_checks header memory row value) refusal kept)
 
       -- a decision that is carried out
-      module _ (decision : Moving) (goes : (refusal : Refusal) → decision ≡ Left refusal → ⊥) (decides : decision ≡ update_decision header memory row value) where
+      module _ (decision : Option Moving) (decides : Ok decision ≡ update_decision header memory row value) where
         told : (decision ≡ updates) × (update_after header memory row value ≡ updating) × Passes (update_checks header memory row value)
         unfolding update_decision update_after
-        told = decided_changes header memory updating (update_checks header memory row value) decision goes decides
+        told = decided_changes header memory updating updates (update_checks header memory row value) decision decides
 
       -- to the value that it has: accepted, and nothing is changed
-      pub update_same : Same ≡ update_decision header memory row value
+      pub update_same : Ok None ≡ update_decision header memory row value
           → (changed : Changed) → changed ≡ done_with header 0 → Leaves (update_after header memory row value) changed words fences
       update_same same changed gives =
-          let says = told Same same_not_left same in
+          let says = told None same in
           made_leaves header 0 memory (update_after header memory row value)
           (says.1 ∙ go (eqb old_value_lem value) says.0) changed gives words fences refl
         where
-          go : (t : Bool) → Same ≡ cond t Same (moves_in header memory old_value_lem value row)
+          go : (t : Bool) → None ≡ cond t None (Some (moves_in header memory old_value_lem value row))
               → cond t (made 0 header memory) (made 0 header moved) ≡ made 0 header memory
           go true e = refl
           go false e = cc
 
-      module _ (sizes : Sizes) (old : ℕ) (first second : Bool) (moves : Moves sizes old first second ≡ update_decision header memory row value) where
-        says : (Moves sizes old first second ≡ updates) × (update_after header memory row value ≡ updating) × Passes (update_checks header memory row value)
-        says = told (Moves sizes old first second) moves_left moves
+      module _ (moving : Moving) (moves : Ok (Some moving) ≡ update_decision header memory row value) where
+        says : (Some moving ≡ updates) × (update_after header memory row value ≡ updating) × Passes (update_checks header memory row value)
+        says = told (Some moving) moves
 
         differs : eqb old_value_lem value ≡ false
         differs = go (eqb old_value_lem value) says.0
           where
-            go : (t : Bool) → Moves sizes old first second ≡ cond t Same (moves_in header memory old_value_lem value row) → t ≡ false
+            go : (t : Bool) → Some moving ≡ cond t None (Some (moves_in header memory old_value_lem value row)) → t ≡ false
             go true e = cc
             go false e = refl
 
-        same : Moves sizes old first second ≡ moves_in header memory old_value_lem value row
-        same = rw differs at says.0
+        same : moving ≡ moves_in header memory old_value_lem value row
+        same = let e = rw differs at says.0 in cc
 
-        is_sizes : sizes ≡ sizes_of header
-        is_sizes = let e = same in cc
-
-        is_old : old ≡ old_value_lem
-        is_old = let e = same in cc
+        is_sizes : moving.sizes ≡ sizes_of header
+        is_sizes = rw same refl
 
         enters : Enters (length words) (length fences) header update_own (sizes_of header)
         enters = passes_enters (length words) (length fences) header update_own says.2
@@ -295,34 +253,33 @@ module _ (words : List ℕ) (fences : List Fence) (header : Header) where
         row_below : row < header.rows
         row_below = omega (arith, leb-false header.issued row enters.passes.1.0, (numbers enters.planned).few_issued)
 
-        pub old_asks : Asks sizes old row first
+        pub old_asks : Asks moving.sizes moving.old row moving.old_merges
         old_asks =
-            let e = same in
-            rw (is_sizes, is_old) (asks enters.planned old_value_lem row first (old_below enters.passes.1.1.1.0) row_below both.0 cc)
+            rw same (asks enters.planned old_value_lem row _ (old_below enters.passes.1.1.1.0) row_below both.0 refl)
 
-        new_asks : Asks (sizes_of header) value row second
+        new_asks : Asks (sizes_of header) value row moving.new_merges
         new_asks =
-            let e = same in asks enters.planned value row second (leb-false header.values value enters.passes.0) row_below both.1 cc
+            asks enters.planned value row moving.new_merges (leb-false header.values value enters.passes.0) row_below both.1 (rw same refl)
 
         -- ---- after the first flip
 
         module _ (half : List ℕ) (half-fences : List Fence) (long : length half ≡ length words) (many : length half-fences ≡ length fences)
-            (flips : memory_of half half-fences ≡ flipped_in sizes memory old row) where
+            (flips : memory_of half half-fences ≡ flipped_in moving.sizes memory moving.old row) where
           half_is : half ≡ flipped_words (sizes_of header) words old_value_lem row
           unfolding flipped_in
-          half_is = rw (is_sizes, is_old) at (ap (λ (m : Memory). m.words) flips)
+          half_is = rw same at (ap (λ (m : Memory). m.words) flips)
 
           puts : Puts (sizes_of header) words old_value_lem (flipped (sizes_of header) row (block_at (sizes_of header) words old_value_lem))
               (flipped_words (sizes_of header) words old_value_lem row)
           puts =
-              let inside = rw (is_sizes, is_old) at old_asks in
+              let inside = rw same at old_asks in
               flipped_puts (sizes_of header) inside.0.limits words old_value_lem inside.0.inside both.0 row inside.2
 
           apart : old_value_lem ≡ value → ⊥
           apart = eqb-false old_value_lem value differs
 
-          pub second_asks : Fenced sizes (length half) (length half-fences) value × (whole sizes half value ≡ true) × (row < sizes.rows)
-              × (second ≡ merges_in sizes half value row)
+          pub second_asks : Fenced moving.sizes (length half) (length half-fences) value × (whole moving.sizes half value ≡ true) × (row < moving.sizes.rows)
+              × (moving.new_merges ≡ merges_in moving.sizes half value row)
           second_asks = (
             rw (is_sizes, long, many) new_asks.0,
             rw (is_sizes, half_is, whole_other puts value apart) both.1,
@@ -330,8 +287,8 @@ module _ (words : List ℕ) (fences : List Fence) (header : Header) where
             rw (is_sizes, half_is, merges_other puts value row apart) new_asks.3,
           )
 
-          pub update-done : (left : List ℕ) (remade : List Fence) → memory_of left remade ≡ flipped_in sizes (memory_of half half-fences) value row
+          pub update-done : (left : List ℕ) (remade : List Fence) → memory_of left remade ≡ flipped_in moving.sizes (memory_of half half-fences) value row
               → (changed : Changed) → changed ≡ done_with header 0 → Leaves (update_after header memory row value) changed left remade
           update-done left remade more changed gives =
               made_leaves header 0 moved (update_after header memory row value) (says.1 ∙ rw differs refl) changed gives left remade
-              (rw (flips, is_sizes, is_old) at more)
+              (rw (flips, same) at more)

@@ -1,4 +1,5 @@
 -- The exits of Load: the answer, the header, all words and all fences are those that the checks, in their order, call for. Assumes nothing.
+use Rattle.std.specs.Prelude.{Ok, Err}
 use mathlib.Core.Path.{◌≡◌, refl, sym, ap, ap₂, ◌∙◌}
 use mathlib.Core.Bool.{true, not, and-true, and-eq-true_iff}
 use mathlib.Core.List.{List, [], ◌∷◌}
@@ -21,7 +22,6 @@ use Rattle.memory.specs.declared.header.Header.{Header}
 use Rattle.block_read.specs.declared.fence.Fence.{Fence}
 use Rattle.memory.specs.declared.header.Changed.{Changed}
 use Rattle.blocks.specs.declared.sizes.Sizes.{Sizes}
-use Rattle.memory.specs.declared.entry.Entry.TheVariants.{Ready, Stop}
 use Rattle.memory.proofs.Headers.{within}
 use Rattle.memory.proofs.Deciding.{ready_passes, passes_read, stop_read, refused_change, change_refuses}
 use Rattle.index.proofs.changing.Leaving.{refused_leaves, made_leaves}
@@ -57,20 +57,20 @@ module _ (words : List ℕ) (fences : List Fence) (column : List ℕ) (rows valu
   unfolding lent
   same_checks = rw no_rows refl
 
-  entry : (refusal : Refusal) → Stop refusal ≡ entered_load (length words) (length fences) rows values threshold spacing column
+  entry : (refusal : Refusal) → Err refusal ≡ entered_load (length words) (length fences) rows values threshold spacing column
       → load_after rows values threshold spacing column memory ≡ refused_change no_header memory refusal
   unfolding entered_index load_after
   entry refusal stop =
       rw same_checks (stop_read (change_refuses no_header memory after) [] (sizes_of empty) refusal checks stop)
 
-  pub load_stops : (refusal : Refusal) → Stop refusal ≡ entered_load (length words) (length fences) rows values threshold spacing column
+  pub load_stops : (refusal : Refusal) → Err refusal ≡ entered_load (length words) (length fences) rows values threshold spacing column
       → (header : Header) → header ≡ no_header → (changed : Changed) → changed ≡ refused_by header refusal
       → Leaves (load_after rows values threshold spacing column memory) changed words fences
   load_stops refusal stop header none changed gives =
       refused_leaves no_header words fences refusal (load_after rows values threshold spacing column memory) (entry refusal stop)
       changed (gives ∙ ap (λ (h : Header). refused_by h refusal) none)
 
-  module _ (sizes : Sizes) (ready : Ready sizes ≡ entered_load (length words) (length fences) rows values threshold spacing column) where
+  module _ (sizes : Sizes) (ready : Ok sizes ≡ entered_load (length words) (length fences) rows values threshold spacing column) where
     told : (sizes ≡ sizes_of empty) × Passes checks
     unfolding entered_index
     told = ready_passes (sizes_of empty) sizes checks ready

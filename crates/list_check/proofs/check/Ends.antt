@@ -4,8 +4,7 @@ use mathlib.Core.Bool.{and-eq-true_iff}
 use lib.ListN.{length-map}
 use Rattle.groups.specs.Rows.{groups_for}
 use Rattle.words.specs.Words.{Run, run_of, span, group_in, groups_in, decode, no_fill, keeps_form, bit_after, well_formed}
-use Rattle.list_check.specs.Inner.{check_of}
-use Rattle.list_check.specs.declared.check.Checked.TheVariants.{Whole, Bad}
+use Rattle.list_check.specs.Inner.{accepted, rejected, check_of}
 use Rattle.words.proofs.Forms.{run_at, bit_past, keeps_covers, keeps_first, length-groups, form_upto, decode_upto}
 use Rattle.groups.proofs.Tail.{last_of, last_repeated, clear_tail}
 use Rattle.list_check.proofs.check.Verdict.{not_formed, as_clear}
@@ -47,17 +46,17 @@ no_word (word ∷ list) e = absurd (omega arith)
 -- ---- the exits
 
 module _ (list : List ℕ) (rows : ℕ) where
-  pub too_long : groups_for rows < length list → Bad ≡ check_of list rows
+  pub too_long : groups_for rows < length list → rejected ≡ check_of list rows
   too_long h = go (well_formed no_fill (map run_of list)) refl
     where
-      go : (t : Bool) → well_formed no_fill (map run_of list) ≡ t → Bad ≡ check_of list rows
+      go : (t : Bool) → well_formed no_fill (map run_of list) ≡ t → rejected ≡ check_of list rows
       go true e = not_formed list rows (rw (e, ne_eqb (length (decode list)) (groups_for rows) (λ q. omega (arith, words-few list e))) refl)
       go false e = not_formed list rows (rw e refl)
 
   -- the list keeps the form and covers M groups: the test of its last group decides
   pub ends : {groups : ℕ} → groups ≡ groups_for rows → well_formed no_fill (map run_of list) && eqb (length (decode list)) groups ≡ true
       → {last : ℕ} → last ≡ group_in (run_at list (length list - 1)) → {clear told : Bool} → clear ≡ eqb (last % 2 ^ (groups * 31 - rows)) 0
-      → clear ≡ told → cond told Whole Bad ≡ check_of list rows
+      → clear ≡ told → cond told accepted rejected ≡ check_of list rows
   ends {groups} g formed l t side =
       let parts = (and-eq-true_iff (well_formed no_fill (map run_of list)) (eqb (length (decode list)) groups)).0 formed in
       let long = eqb-true (length (decode list)) groups parts.1 in

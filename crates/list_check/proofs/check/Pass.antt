@@ -1,5 +1,6 @@
 -- The invariant of the pass over a list: what its bits and its sum say of the words read, and at its end of the list. Assumes nothing.
-use Rattle.std.proofs.Common.{◌≡◌, ℕ, zero, suc, ◌+◌, ◌-◌, ◌%◌, ◌<◌, ◌≤◌, Bool, true, false, ◌&&◌, eqb, List, ◌∷◌, map, length, get_or, take, drop, sym, refl, ◌∙◌, add-zero, add-one, arith, length-drop, length-take-le, get_or-drop, take_all, get_or-take, ne_eqb, eqb-true}
+use Rattle.std.proofs.Common.{◌≡◌, ℕ, zero, suc, ◌+◌, ◌-◌, ◌%◌, ◌<◌, ◌≤◌, Bool, true, false, ◌&&◌, eqb, List, ◌∷◌, ◌++◌, map, length, get_or, take, drop, sym, refl, ap, ◌∙◌, add-zero, add-one, arith, length-append, length-drop, get_or-drop, take_all, ne_eqb, eqb-true}
+use Rattle.std.proofs.lemmas.List.{get_or_append_left, drop-drop, drop_at}
 use mathlib.Core.Bool.{and-eq-true_iff}
 use lib.Bits.{bit_or, or_add_and, and_le_l, and_le_r, or_lt, or_zero_r}
 use Rattle.words.specs.Words.{all_ones, run_of, span, decode, no_fill, keeps_form, bit_after, well_formed}
@@ -106,11 +107,18 @@ mixed_more {list} {gathered} {covered} i b few (suc count) h mixed =
     let place : i + count + 1 ≡ i + suc count = omega arith in
     rw (or_zero_r gathered, same, place) at here
 
--- THEOREM: a part of a list that is mixed adds nothing
-pub mixed_part : {list : List ℕ} {gathered covered i : ℕ} → PassedTo list gathered covered i → length list ≤ 4096 → (next : ℕ) → i ≤ next → next ≤ length list
-    → AllMixed (take (next - i) (drop i list)) → PassedTo list gathered covered next
-mixed_part {list} {gathered} {covered} {i} b few next h within all =
-    let part = take (next - i) (drop i list) in
-    let long : length part ≡ next - i = length-take-le (next - i) (drop i list) (omega (arith, length-drop i list)) in
-    let place : i + (next - i) ≡ next = omega arith in
-    rw place at (mixed_more i b few (next - i) (omega arith) (λ k less. rw (get_or-take (next - i) (drop i list) k 0 less, get_or-drop i list k 0) at (all k (omega (arith, long)))))
+module _ (list : List ℕ) (i : ℕ) (part rest : List ℕ) (e : drop i list ≡ part ++ rest) where
+  -- what is left of a list begins with a part: it ends within the list
+  part_fits : i ≤ length list → i + length part ≤ length list
+  part_fits within = omega (arith, length-drop i list, length-append part rest, ap length e)
+
+  -- what is left of the list behind the part
+  pub behind_part : rest ≡ drop (i + length part) list
+  behind_part = sym (sym (drop-drop (length part) i list) ∙ ap (drop (length part)) e ∙ drop_at part rest (length part) refl)
+
+  -- THEOREM: a part that is mixed adds nothing
+  pub mixed_part : {gathered covered : ℕ} → PassedTo list gathered covered i → length list ≤ 4096 → AllMixed part
+      → PassedTo list gathered covered (i + length part)
+  mixed_part b few all =
+      mixed_more i b few (length part) (part_fits b.within)
+      (λ k less. rw (sym (get_or-drop i list k 0) ∙ ap (λ (left : List ℕ). get_or left k 0) e ∙ get_or_append_left part rest 0 k less) (all k less))

@@ -1,4 +1,5 @@
 -- The walk a word at a time: how it starts, how it ends, and what it does with the next word. Assumes nothing.
+use Rattle.std.specs.Prelude.{Option, Some, None}
 use mathlib.Core.Path.{◌≡◌, refl, ◌∙◌, sym}
 use mathlib.Core.Bool.{cond}
 use mathlib.Core.Logic.{◌⊎◌, inl, inr, by_cases}
@@ -16,11 +17,9 @@ use Rattle.words.specs.Words.{span}
 use Rattle.words.proofs.Forms.{run_at}
 use Rattle.list_walk.specs.Walk.{walk, walk_to}
 use Rattle.list_walk.specs.declared.walk.Covering.{Covering}
-use Rattle.list_walk.specs.declared.walk.Walk.{Walk}
-use Rattle.list_walk.specs.declared.walk.Walk.TheVariants.{Covered, Damaged}
 
 -- the walk from place i on, when i words have been opened
-abbrev pub walk_from : List ℕ → ℕ → ℕ → ℕ → Walk
+abbrev pub walk_from : List ℕ → ℕ → ℕ → ℕ → Option Covering
 walk_from list budget i skip = walk (budget - i) (drop i list) skip i
 
 -- the answer where the word at place i covers the group
@@ -30,7 +29,7 @@ cover_at list i skip = record { word = get_or list i 0; beyond = span (run_at li
 -- ---- the start
 
 module _ (list : List ℕ) (first group budget : ℕ) where
-  pub starts_late : group < first → walk_to list first group budget ≡ Damaged
+  pub starts_late : group < first → walk_to list first group budget ≡ None
   unfolding walk_to
   starts_late h = rw (lt-ltb group first h) refl
 
@@ -41,33 +40,33 @@ module _ (list : List ℕ) (first group budget : ℕ) where
 -- ---- no word is opened at place i: the list ends there, or the budget is spent
 
 module _ (list : List ℕ) (budget i skip : ℕ) where
-  pub ends : length list ≤ i → walk_from list budget i skip ≡ Damaged
+  pub ends : length list ≤ i → walk_from list budget i skip ≡ None
   ends h = rw (drop_of_length-le list h) refl
 
-  pub spends : i < length list → budget ≤ i → walk_from list budget i skip ≡ Damaged
+  pub spends : i < length list → budget ≤ i → walk_from list budget i skip ≡ None
   spends h b =
       let none : budget - i ≡ 0 = omega arith in
       rw (none, drop-cons list i 0 h) refl
 
-  pub stops : min budget (length list) ≤ i → walk_from list budget i skip ≡ Damaged
+  pub stops : min budget (length list) ≤ i → walk_from list budget i skip ≡ None
   stops h = by_cases (dec_lt i (length list)) (λ within. spends within (omega (arith, h, within))) (λ past. ends (omega (arith, past)))
 
 -- ---- the word at place i is opened: its fill counts 0, it covers the group, or it is passed
 
 module _ (list : List ℕ) (budget i skip : ℕ) (h : i < length list) (b : i < budget) where
   opens : walk_from list budget i skip
-      ≡ cond (eqb (span (run_at list i)) 0) Damaged
+      ≡ cond (eqb (span (run_at list i)) 0) None
       (cond (ltb skip (span (run_at list i)))
-      (Covered (cover_at list i skip))
+      (Some (cover_at list i skip))
       (walk_from list budget (i + 1) (skip - span (run_at list i))))
   opens =
       let one : budget - i ≡ suc (budget - (i + 1)) = omega arith in
       rw (one, drop-cons list i 0 h, add-one) refl
 
-  pub counts_none : span (run_at list i) ≡ 0 → walk_from list budget i skip ≡ Damaged
+  pub counts_none : span (run_at list i) ≡ 0 → walk_from list budget i skip ≡ None
   counts_none none = opens ∙ rw (eq-eqb (span (run_at list i)) 0 none) refl
 
-  pub covers : skip < span (run_at list i) → walk_from list budget i skip ≡ Covered (cover_at list i skip)
+  pub covers : skip < span (run_at list i) → walk_from list budget i skip ≡ Some (cover_at list i skip)
   covers near = opens ∙ rw (ne_eqb (span (run_at list i)) 0 (λ e. omega arith), lt-ltb skip (span (run_at list i)) near) refl
 
   pub passes : (span (run_at list i) ≡ 0 → ⊥) → span (run_at list i) ≤ skip
@@ -76,19 +75,19 @@ module _ (list : List ℕ) (budget i skip : ℕ) (h : i < length list) (b : i < 
 
 -- ---- the same backwards: a walk that found its word
 
-pub not_covered : {c : Covering} → Damaged ≡ Covered c → ⊥
+pub not_covered : {c : Covering} → None ≡ Some c → ⊥
 not_covered e = let z : ◌≡◌ {A = ℕ} 0 1 = cc in omega arith
 
-same_covering : {c d : Covering} → Covered c ≡ Covered d → c ≡ d
+same_covering : {c d : Covering} → Some c ≡ Some d → c ≡ d
 same_covering e = cc
 
-pub found_early : (list : List ℕ) (first group budget : ℕ) (c : Covering) → walk_to list first group budget ≡ Covered c → first ≤ group
+pub found_early : (list : List ℕ) (first group budget : ℕ) (c : Covering) → walk_to list first group budget ≡ Some c → first ≤ group
 found_early list first group budget c e =
     by_cases (dec_lt group first)
     (λ late. absurd (not_covered (sym (starts_late list first group budget late) ∙ e)))
     (λ early. omega (arith, early))
 
-module _ (list : List ℕ) (budget i skip : ℕ) (c : Covering) (h : i < length list) (e : walk_from list budget i skip ≡ Covered c) where
+module _ (list : List ℕ) (budget i skip : ℕ) (c : Covering) (h : i < length list) (e : walk_from list budget i skip ≡ Some c) where
   pub found_paid : i < budget
   found_paid =
       by_cases (dec_lt i budget)
@@ -100,7 +99,7 @@ module _ (list : List ℕ) (budget i skip : ℕ) (c : Covering) (h : i < length 
 
   -- the word found is the one at place i, or it is found from the next place on
   pub here_or_later : ((skip < span (run_at list i)) × (cover_at list i skip ≡ c))
-      ⊎ ((span (run_at list i) ≤ skip) × (walk_from list budget (i + 1) (skip - span (run_at list i)) ≡ Covered c))
+      ⊎ ((span (run_at list i) ≤ skip) × (walk_from list budget (i + 1) (skip - span (run_at list i)) ≡ Some c))
   here_or_later =
       by_cases (dec_lt skip (span (run_at list i)))
       (λ near. inl (near, same_covering (sym (covers list budget i skip h found_paid near) ∙ e)))

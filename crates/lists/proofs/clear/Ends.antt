@@ -10,19 +10,29 @@ use native.Mathlib.Decide.{dec_lt}
 use native.Mathlib.Omega.{arith}
 use lib.Count.{under, count_trailing_zeros}
 use lib.Dec.{leb, eqb, leb-zero, leb-suc-zero, leb-suc-suc}
-use lib.ListN.{length, take, replicate}
+use lib.ListN.{length, get_or, take, replicate}
 use lib.Pow.{mod-pow-add}
-use lib.Seq.{take_all, drop-nil}
+use lib.Seq.{drop-nil}
 use borrow.Author.Tests.{leb-true, leb-false, le-leb, lt-leb, ne_eqb}
+use denote.Ref.{Bor}
+use Rattle.std.specs.Iterator.{Yields}
+use Rattle.std.specs.Iterator.Adapters.{rev_source, rev_steps}
+use Rattle.std.proofs.Common.{Option, Some, None}
+use Rattle.std.specs.Slice.Iter.{iter_rest, iter_steps_back}
+use Rattle.std.specs.declared.iter.Rev.{Rev}
+use Rattle.std.specs.declared.slice.Iter.{Iter}
+use Rattle.std.proofs.lemmas.Iterator.Adapters.{YieldsList-from_rev_slice}
+use Rattle.std.proofs.lemmas.Iterator.Consumers.{YieldsList-turn, YieldsList-end}
+use Rattle.std.proofs.lemmas.List.{length-reverse, get_or-reverse, get_or_default}
 use Rattle.groups.specs.Rows.{rows_of, clear_from}
-use Rattle.words.specs.Words.{span, group_in, decode}
+use Rattle.words.specs.Words.{run_of, span, group_in, decode}
 use Rattle.words.proofs.Forms.{run_at, decode_upto, length_upto}
 use Rattle.groups.proofs.Groups.{rows_of-append}
 use Rattle.words.proofs.Uniform.{rows_of-uniform}
 use Rattle.groups.proofs.Tests.{same_test}
 use Rattle.groups.proofs.Tail.{last_of, last_repeated, clear_tail, clear_from-row_at, row_at-clear_from}
 use Rattle.groups.proofs.Zeros.{zeros-behind}
-use Rattle.lists.specs.Inner.{Filled, Covers}
+use Rattle.lists.specs.Inner.{Filled}
 use Rattle.lists.proofs.Covering.{word_small}
 
 -- ---- the machine's count of zeros below the lowest 1
@@ -102,47 +112,78 @@ pub record ZerosFrom (list : List ℕ) (row end at : ℕ) : Type 0 where
   pub few : end ≤ length (decode list)
   pub same : clear_from row (decode list) ≡ clear_from row (decode (take at list))
 
-pub begins : (list : List ℕ) (groups row : ℕ) → Covers groups list → ZerosFrom list row groups (length list)
-begins list groups row covers =
-    let all : take (length list) list ≡ list = take_all (length list) list (omega arith) in
-    record { within = omega arith; covered = rw all (sym covers.long); few = omega (arith, covers.long); same = rw all refl }
-
 pub ends : (list : List ℕ) (row end at : ℕ) → ZerosFrom list row end at → at ≡ 0 → true ≡ clear_from row (decode list)
 ends list row end at zeros none = sym (zeros.same ∙ rw none (clear_none row))
 
-module _ (list : List ℕ) (row end at : ℕ) (zeros : ZerosFrom list row end at) (some : 0 < at) where
-  one_more : at - 1 + 1 ≡ at
-  one_more = omega arith
+-- the word that is read after `passed` others, from the end
+abbrev FromEnd : List ℕ → ℕ → ℕ → Type 0
+FromEnd list passed word = (passed < length list) × (word ≡ get_or list (length list - (passed + 1)) 0)
 
-  here : at - 1 < length list
-  here = omega (arith, zeros.within)
+module _ (list : List ℕ) (row end passed word : ℕ) (zeros : ZerosFrom list row end (length list - passed)) (here : FromEnd list passed word) where
+  at : ℕ
+  at = length list - (passed + 1)
 
-  last_word : decode (take at list) ≡ decode (take (at - 1) list) ++ replicate (span (run_at list (at - 1))) (group_in (run_at list (at - 1)))
-  last_word = rw one_more at (decode_upto list (at - 1) here)
+  one_more : length list - passed ≡ at + 1
+  unfolding at
+  one_more = omega (arith, here.0)
 
-  last-span : end ≡ length (decode (take (at - 1) list)) + span (run_at list (at - 1))
-  last-span = zeros.covered ∙ rw one_more at (length_upto list (at - 1) here)
+  inside : at < length list
+  unfolding at
+  inside = omega (arith, here.0)
 
-  pub last_fits : span (run_at list (at - 1)) ≤ end
+  same_word : run_at list at ≡ run_of word
+  unfolding at
+  same_word = ap run_of (sym here.1)
+
+  last_word : decode (take (length list - passed) list) ≡ decode (take at list) ++ replicate (span (run_of word)) (group_in (run_of word))
+  last_word = rw (one_more, ← same_word) (decode_upto list at inside)
+
+  last-span : end ≡ length (decode (take at list)) + span (run_of word)
+  last-span = zeros.covered ∙ rw (one_more, ← same_word) (length_upto list at inside)
+
+  pub last_fits : span (run_of word) ≤ end
   last_fits = omega (arith, last-span)
 
   -- a word of zeros is passed
-  pub passes : group_in (run_at list (at - 1)) ≡ 0 → ZerosFrom list row (end - span (run_at list (at - 1))) (at - 1)
+  pub passes : group_in (run_of word) ≡ 0 → ZerosFrom list row (end - span (run_of word)) (length list - (passed + 1))
+  unfolding at
   passes none =
       record {
-        within = omega (arith, zeros.within);
+        within = omega arith;
         covered = omega (arith, last-span);
         few = omega (arith, zeros.few);
-        same = zeros.same ∙ rw (last_word, none) (clear_front row (decode (take (at - 1) list)) (span (run_at list (at - 1))));
+        same = zeros.same ∙ rw (last_word, none) (clear_front row (decode (take at list)) (span (run_of word)));
       }
 
   -- any other word decides
-  pub decides : Filled list → (group_in (run_at list (at - 1)) ≡ 0 → ⊥)
-      → leb (31 * end) (row + count_trailing_zeros 32 (group_in (run_at list (at - 1)))) ≡ clear_from row (decode list)
+  pub decides : Filled list → (group_in (run_of word) ≡ 0 → ⊥)
+      → leb (31 * end) (row + count_trailing_zeros 32 (group_in (run_of word))) ≡ clear_from row (decode list)
   decides filled set =
-      let front = decode (take (at - 1) list) in
-      let group = group_in (run_at list (at - 1)) in
-      let last : last_of (decode (take at list)) ≡ group
-      = rw last_word (last_repeated front (span (run_at list (at - 1))) group (filled (at - 1) here)) in
-      sym (zeros.same
-      ∙ rw (← last, zeros.covered) (clear_last row (decode (take at list)) (λ e. set (sym last ∙ e)) (rw last (word_small list (at - 1)))))
+      let front = decode (take at list) in
+      let group = group_in (run_of word) in
+      let last : last_of (decode (take (length list - passed) list)) ≡ group
+      = rw last_word (last_repeated front (span (run_of word)) group (rw (← same_word) (filled at inside))) in
+      let small : group < 0x80000000 = rw (← same_word) (word_small list at) in
+      sym (zeros.same ∙ rw (← last, zeros.covered) (clear_last row (decode (take (length list - passed) list)) (λ e. set (sym last ∙ e)) (rw last small)))
+
+-- ---- the words of a list, as the iterator from its end gives them
+
+pub read_back : (list : List ℕ) (begun now later : Rev (Iter ℕ)) (words : List (Bor ℕ)) (next : Option (Bor ℕ)) (word : Bor ℕ)
+    → iter_rest (rev_source begun) ≡ list → Yields (rev_steps iter_steps_back) begun words now → next ≡ Some word → rev_steps iter_steps_back now next later
+    → FromEnd list (length words) word.now
+read_back list begun now later words next word all given some turn =
+    let t = YieldsList-turn (YieldsList-from_rev_slice list all) words now given next later word some turn in
+    let inside : length words < length list = omega (arith, t.0, length-reverse list) in (
+      inside,
+      t.1
+          ∙ get_or-reverse list (length words) word.now inside
+          ∙ get_or_default list (length list - 1 - length words) word.now 0 (omega arith)
+          ∙ ap (λ (i : ℕ). get_or list i 0) (omega arith),
+    )
+
+pub read_all : (list : List ℕ) (begun now later : Rev (Iter ℕ)) (words : List (Bor ℕ)) (next : Option (Bor ℕ))
+    → iter_rest (rev_source begun) ≡ list → Yields (rev_steps iter_steps_back) begun words now → next ≡ None → rev_steps iter_steps_back now next later
+    → length list - length words ≡ 0
+read_all list begun now later words next all given none turn =
+    let e = YieldsList-end (YieldsList-from_rev_slice list all) words now given next later none turn in
+    omega (arith, e.1, length-reverse list)

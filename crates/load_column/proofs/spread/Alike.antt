@@ -4,12 +4,13 @@ use mathlib.Core.Bool.{and-eq-true_iff}
 use mathlib.Core.Logic.{by_cases}
 use native.Mathlib.Decide.{dec_lt}
 use lib.ListN.{get_or-replicate}
+use Rattle.std.specs.List.{list_all}
 use Rattle.groups.specs.Rows.{group_of}
 use Rattle.groups.proofs.Tests.{same_test}
 use Rattle.words.specs.Words.{all_ones}
 use Rattle.load_list.specs.Column.{rows_with}
 use Rattle.load_list.specs.Inner.{all_alike}
-use Rattle.load_list.proofs.listing.Alike.{alike-replicate}
+use Rattle.load_list.proofs.listing.Alike.{alike_numbers, alike-replicate}
 use Rattle.load_column.specs.Inner.{one_byte}
 
 alike_each : (byte : ℕ) (rows : List ℕ) → all_alike byte rows ≡ true → (i : ℕ) → i < length rows → get_or rows i 0 ≡ byte
@@ -21,14 +22,14 @@ each_alike byte (row ∷ rows) each = rw (eq-eqb row byte (each 0 (omega arith))
 
 -- a window of sixteen rows
 module _ (rows : List ℕ) (at : ℕ) (inside : at + 16 ≤ length rows) where
-  pub window_length : length (take 16 (drop at rows)) ≡ 16
+  window_length : length (take 16 (drop at rows)) ≡ 16
   window_length = length-take-le 16 (drop at rows) (rw length-drop (omega arith))
 
   in_window : (i : ℕ) → i < 16 → get_or (take 16 (drop at rows)) i 0 ≡ get_or rows (at + i) 0
   in_window i h = get_or-take 16 (drop at rows) i 0 h ∙ get_or-drop at rows i 0
 
 -- the first row and two windows are all rows
-pub two_windows : (rows : List ℕ) → length rows ≡ 31
+two_windows : (rows : List ℕ) → length rows ≡ 31
     → all_alike (get_or rows 0 0) rows ≡ all_alike (get_or rows 0 0) (take 16 (drop 1 rows)) && all_alike (get_or rows 0 0) (take 16 (drop 15 rows))
 two_windows rows long =
     let byte = get_or rows 0 0 in
@@ -68,6 +69,15 @@ two_windows rows long =
         ap (λ (k : ℕ). get_or rows k 0) (sym here)
         ∙ sym (in_window rows 15 (omega arith) (suc i - 15) below)
         ∙ alike_each (get_or rows 0 0) (take 16 (drop 15 rows)) back (suc i - 15) (rw (window_length rows 15 (omega arith)) below))
+
+-- so what is answered of both windows shows whether the rows are a whole group of one byte
+pub windows_alike : (rows : List ℕ) → length rows ≡ 31 → {front back : Bool}
+    → front ≡ list_all (λ each. eqb each (get_or rows 0 0)) (take 16 (drop 1 rows))
+    → back ≡ list_all (λ each. eqb each (get_or rows 0 0)) (take 16 (drop 15 rows)) → front && back ≡ one_byte rows
+windows_alike rows long f b =
+    let byte = get_or rows 0 0 in
+    rw (f, b, alike_numbers byte (take 16 (drop 1 rows)), alike_numbers byte (take 16 (drop 15 rows)), eq-eqb (length rows) 31 long)
+    (sym (two_windows rows long))
 
 -- a whole group of one byte: so many times the byte, and the group of each value
 module _ (rows : List ℕ) (e : one_byte rows ≡ true) where

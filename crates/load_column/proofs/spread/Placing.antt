@@ -1,5 +1,5 @@
 -- The group of each value is put at one place of the value's block, a value at a time. Assumes nothing.
-use Rattle.std.proofs.Common.{◌≡◌, ℕ, ◌+◌, ◌*◌, ◌<◌, ◌≤◌, Bool, true, false, cond, eqb, List, length, get_or, set, sym, refl, ◌∙◌, suc-mul, add-one, arith, length-set, get_or-set_other, get_or-set_same, ne_eqb, eqb-true}
+use Rattle.std.proofs.Common.{◌≡◌, ℕ, ◌+◌, ◌*◌, ◌<◌, ◌≤◌, Bool, true, false, cond, eqb, List, length, get_or, set, sym, refl, ◌∙◌, arith, length-set, get_or-set_other, get_or-set_same, ne_eqb, eqb-true}
 use mathlib.Core.Logic.{by_cases}
 use native.Mathlib.Decide.{dec_lt}
 use borrow.Author.Tests.{eqb-false}
@@ -19,10 +19,6 @@ same_block block value other place spot p q met =
 
 pub place_none : (block place : ℕ) (groups : ℕ → ℕ) (words : List ℕ) → Placed 0 block place groups words words
 place_none block place groups words = record { same = refl; put = λ value below. absurd (omega arith); kept = λ i apart. refl }
-
--- the place in the next block
-pub next_place : (value block place at : ℕ) → at ≡ value * block + place → at + block ≡ (value + 1) * block + place
-next_place value block place at here = rw (add-one, suc-mul) (omega arith)
 
 pub place-more : {value block place : ℕ} {groups : ℕ → ℕ} {words left : List ℕ} → Placed value block place groups words left
     → 0 < block → (at : ℕ) → at ≡ value * block + place → at < length left → (group : ℕ) → group ≡ groups value

@@ -1,7 +1,6 @@
 -- All groups of a column are put into the blocks, the groups of 31 rows at a time. Assumes nothing.
-use Rattle.std.proofs.Common.{◌≡◌, ℕ, suc, ◌+◌, ◌-◌, ◌*◌, ◌<◌, ◌≤◌, min, List, [], ◌∷◌, ◌++◌, length, get_or, take, drop, set, replicate, sym, refl, ap, ◌∙◌, append_assoc, append-nil, add-one, arith, length-append, length-drop, get_or-drop, drop-cons, take-suc, ext_get_or, drop_at}
-use lib.ListN.{length-replicate, replicate-append-replicate, get_or-append}
-use lib.Seq.{set_at}
+use Rattle.std.proofs.Common.{◌≡◌, ℕ, ◌+◌, ◌-◌, ◌*◌, ◌<◌, ◌≤◌, min, List, [], ◌∷◌, ◌++◌, length, get_or, take, drop, replicate, sym, refl, ap, ◌∙◌, append_assoc, append-nil, add-one, arith, length-append, length-drop, get_or-drop, take-suc, ext_get_or, drop_at}
+use lib.ListN.{length-replicate, get_or-append}
 use Rattle.groups.specs.Rows.{group_of, groups_for, groups_of}
 use Rattle.groups.proofs.Groups.{groups_of-next, groups_of-past, get_or-zeros}
 use Rattle.blocks.specs.Block.{part}
@@ -9,6 +8,8 @@ use Rattle.blocks.proofs.Parts.{length_part, get_d_part}
 use Rattle.blocks.proofs.SizeLaws.{place-fits}
 use Rattle.load_list.specs.Column.{rows_with}
 use Rattle.load_list.proofs.listing.Rows.{length-rows_with, rows_with-take, rows_with-drop}
+use Rattle.std.proofs.Math.Seq.{take-append_seam, drop-append_seam}
+use Rattle.std.proofs.lemmas.List.{drop-drop}
 use Rattle.load_column.specs.Inner.{Clear, Placed, Spread}
 use Rattle.load_column.proofs.spread.Placing.{same_block}
 
@@ -119,22 +120,31 @@ module _ {block values : ℕ} {column words₀ words : List ℕ} {place at : ℕ
             (λ i h. get_or-drop from words i 0 ∙ p.behind (from + i) (omega arith) ∙ sym (get_or-drop from words₀ i 0));
       }
 
+-- a turn of the pass: the rows of the next group are cut off
+pub record Turn (column rows rest : List ℕ) (at : ℕ) : Type 0 where
+  pub more : at < length column
+  pub few : length rows ≤ 31
+  pub end : at + length rows ≡ min (at + 31) (length column)
+  pub rows_are : take (at + length rows - at) (drop at column) ≡ rows
+  pub rest_is : rest ≡ drop (at + length rows) column
+
+pub turn : {column left rows rest : List ℕ} {at size : ℕ} → left ≡ drop at column → left ≡ rows ++ rest → size ≡ 31
+    → length rows ≡ min size (length left) → 0 < length left → Turn column rows rest at
+turn {column} {left} {rows} {rest} {at} {size} these cut all many some =
+    let long : length left ≡ length column - at = ap length these ∙ length-drop at column in
+    let count : at + length rows - at ≡ length rows = omega arith in
+    record {
+      more = omega (arith, long);
+      few = omega (arith, many, all);
+      end = omega (arith, long, many, all);
+      rows_are = rw (count, ← these, cut) (take-append_seam rows rest);
+      rest_is = rw (← drop-drop, ← these, cut) (sym (drop-append_seam rows rest));
+    }
+
 -- ---- the blocks are cleared first
 
 pub length-cleared : (words : List ℕ) (count : ℕ) → count ≤ length words → length (replicate count 0 ++ drop count words) ≡ length words
 length-cleared words count h = simp (length-append, length-replicate, length-drop) (omega arith)
-
--- one word more
-pub clears_more : (words : List ℕ) (i : ℕ) → i < length words → set (replicate i 0 ++ drop i words) i 0 ≡ replicate (i + 1) 0 ++ drop (i + 1) words
-clears_more words i h =
-    rw (
-      drop-cons words i 0 h,
-      set_at (replicate i 0) (get_or words i 0) (drop (suc i) words) 0 i (length-replicate {A = ℕ} i 0),
-      ← replicate-append-replicate {A = ℕ} i 1 0,
-      append_assoc,
-      add-one i,
-    )
-    refl
 
 module _ (block values : ℕ) (words cleared : List ℕ) (lent : values * block ≤ length words) (e : cleared ≡ replicate (values * block) 0 ++ drop (values * block) words) where
   -- the places of all blocks are clear

@@ -1,23 +1,25 @@
 -- What is taken into a list: a step, one part of the groups after the other, and the zeros behind the last one. Assumes nothing.
 use mathlib.Core.Path.{◌≡◌, refl, ◌∙◌, ap, sym}
 use mathlib.Core.List.{List, [], ◌∷◌, ◌++◌, append_assoc, append-nil}
-use Prim.Native.Nat.{ℕ, suc, ◌+◌, ◌-◌, ◌<◌, ◌≤◌}
-use native.Mathlib.Nat.{zero-add}
+use Prim.Native.Nat.{ℕ, zero, suc, ◌+◌, ◌-◌, ◌*◌, ◌<◌, ◌≤◌}
+use native.Mathlib.Nat.{zero-mul, suc-mul}
 use native.Mathlib.Omega.{arith}
 use lib.ListN.{length, get_or, set, take, drop, replicate, length-append, length-replicate, length-map, take-append-drop}
-use lib.Seq.{sets, sets-eq, length-sets, get_or-set_other, drop-cons, take-add}
+use lib.Seq.{sets, length-sets, get_or-set_other, drop-cons, take-add}
+use Rattle.std.specs.Simd.{first_chunks}
+use Rattle.std.proofs.lemmas.List.{drop-drop}
 use Rattle.groups.proofs.Sets.{sets-append}
 use Rattle.words.specs.Words.{Run, runs_of, encode}
-use Rattle.words.specs.Inner.{uniform, after, written, last_words, Takes}
+use Rattle.words.specs.Inner.{uniform, after, written, last_words, Takes, no_run, Fits, Follows, Closes}
 use Rattle.words.specs.declared.writer.Pending.{Pending}
 use Rattle.words.specs.declared.writer.Step.{Step}
+use Rattle.words.specs.declared.writer.ListWriter.{ListWriter}
 use Rattle.words.proofs.Runs.{by_fill, by_group, joins}
 use Rattle.words.proofs.Size.{encode-length}
-use Rattle.words.proofs.Writing.{written-length}
+use Rattle.words.proofs.Writing.{Writing, written-length, begins, push_fits, push_on, closes, ends}
 use Rattle.blocks.specs.Block.{padded}
 use Rattle.blocks.proofs.Rooms.{length-padded}
-use Rattle.load_list.specs.Inner.{zeros_pending, Fits, Follows}
-use Rattle.load_list.specs.declared.listing.Listed.{Listed}
+use Rattle.load_list.specs.Inner.{Clear}
 
 -- ---- writes
 
@@ -46,13 +48,13 @@ some_words (group ∷ groups) h =
 
 -- ---- what is taken in
 
-pub follows_none : (pending : Pending) (at : ℕ) (out : List ℕ) → pending.bit < 2 → Follows pending [] at out (record { written = at; pending = pending }) out
-follows_none pending at out is_bit =
+pub follows_none : (list : ListWriter) → list.pending.bit < 2 → Follows [] list list
+follows_none list is_bit =
     record { words = []; law = λ rest. refl; is_bit = is_bit; grows = omega arith; counts = omega arith; writes = refl }
 
-pub follows_step : {pending : Pending} {groups : List ℕ} {step : Step} {at : ℕ} {out : List ℕ} {listed : Listed} {left : List ℕ}
-    → Takes pending groups step → listed.written ≡ at + step.words → listed.pending ≡ step.pending → left ≡ sets out at (written step)
-    → Follows pending groups at out listed left
+pub follows_step : {groups : List ℕ} {step : Step} {list further : ListWriter}
+    → Takes list.pending groups step → further.written ≡ list.written + step.words → further.pending ≡ step.pending
+    → further.out.now ≡ sets list.out.now list.written (written step) → Follows groups list further
 follows_step {step = step} t counts keeps writes =
     record {
       words = written step;
@@ -64,68 +66,69 @@ follows_step {step = step} t counts keeps writes =
     }
 
 -- groups that make the pending run longer
-pub follows_run : (pending : Pending) (count at : ℕ) (out : List ℕ) → pending.bit < 2
-    → Follows pending (uniform pending.bit count) at out (record { written = at; pending = record { bit = pending.bit; count = pending.count + count } }) out
-follows_run pending count at out is_bit =
+pub follows_run : (list : ListWriter) (count : ℕ) → list.pending.bit < 2
+    → Follows (uniform list.pending.bit count) list (record list { pending = record { bit = list.pending.bit; count = list.pending.count + count } })
+follows_run list count is_bit =
     record {
       words = [];
-      law = λ rest. ap encode (joins pending.bit pending.count count rest);
+      law = λ rest. ap encode (joins list.pending.bit list.pending.count count rest);
       is_bit = is_bit;
       grows = rw length-replicate (omega arith);
       counts = omega arith;
       writes = refl;
     }
 
-module _ {pending : Pending} {groups : List ℕ} {at : ℕ} {out : List ℕ} (p : Fits pending groups at out) where
+module _ {groups : List ℕ} {list : ListWriter} (p : Fits groups list) where
   -- a step that takes the groups in has room
-  pub step_fits : {step : Step} → Takes pending groups step → at + step.words ≤ length out
+  pub step_fits : {step : Step} → Takes list.pending groups step → list.written + step.words ≤ length list.out.now
   step_fits {step} t = omega (arith, p.room, simp length-append at (ap length (t.law p.behind)), written-length step t.few)
 
   -- and so has one word more
-  pub some_room : 0 < length groups → at < length out
+  pub some_room : 0 < length groups → list.written < length list.out.now
   some_room some =
       omega (
         arith,
         p.room,
-        some_words (after pending (groups ++ p.behind))
-            (omega (arith, length-append (uniform pending.bit pending.count) (groups ++ p.behind), length-append groups p.behind)),
+        some_words (after list.pending (groups ++ p.behind))
+            (omega (arith, length-append (uniform list.pending.bit list.pending.count) (groups ++ p.behind), length-append groups p.behind)),
       )
 
 -- the first of some groups fit where all do
-fits-front : {pending : Pending} {at : ℕ} {out : List ℕ} (front back : List ℕ) → Fits pending (front ++ back) at out → Fits pending front at out
+fits-front : {list : ListWriter} (front back : List ℕ) → Fits (front ++ back) list → Fits front list
 fits-front front back p =
     record {
       is_bit = p.is_bit;
       few = omega (arith, p.few, length-append front back);
       behind = back ++ p.behind;
       room = rw append_assoc at p.room;
-      clear = p.clear;
     }
 
-module _ {pending : Pending} {groups : List ℕ} {at : ℕ} {out : List ℕ} {listed : Listed} {left : List ℕ} (f : Follows pending groups at out listed left) where
-  pub length_left : length left ≡ length out
-  length_left = ap length f.writes ∙ length-sets out at f.words
-
+module _ {groups : List ℕ} {list further : ListWriter} (f : Follows groups list further) where
   -- the groups behind them fit where all did
-  fits_on : (more : List ℕ) → Fits pending (groups ++ more) at out → Fits listed.pending more listed.written left
+  pub fits_on : (more : List ℕ) → Fits (groups ++ more) list → Fits more further
   fits_on more p =
-      let all : length (encode (after pending (groups ++ more ++ p.behind))) ≡ length f.words + length (encode (after listed.pending (more ++ p.behind))) =
-      rw append_assoc (ap length (f.law (more ++ p.behind)) ∙ length-append f.words (encode (after listed.pending (more ++ p.behind))))
+      let all : length (encode (after list.pending (groups ++ more ++ p.behind))) ≡ length f.words + length (encode (after further.pending (more ++ p.behind))) =
+      rw append_assoc (ap length (f.law (more ++ p.behind)) ∙ length-append f.words (encode (after further.pending (more ++ p.behind))))
       in
       record {
         is_bit = f.is_bit;
         few = omega (arith, f.grows, p.few, length-append groups more);
         behind = p.behind;
-        room = omega (arith, f.counts, length_left, p.room, all);
-        clear = λ place h.
+        room = omega (arith, f.counts, ap length f.writes, length-sets list.out.now list.written f.words, p.room, all);
+      }
+
+  -- 0 stands behind their words too
+  pub clear_on : Clear list → Clear further
+  clear_on clear =
+      record {
+        behind = λ place h.
             ap (λ (words : List ℕ). get_or words place 0) f.writes
-            ∙ get_or-behind out at f.words place (omega (arith, h, f.counts))
-            ∙ p.clear place (omega (arith, h, f.counts));
+            ∙ get_or-behind list.out.now list.written f.words place (omega (arith, h, f.counts))
+            ∙ clear.behind place (omega (arith, h, f.counts));
       }
 
   -- and are taken in then
-  follows_on : {more : List ℕ} {further : Listed} {end : List ℕ} → Follows listed.pending more listed.written left further end
-      → Follows pending (groups ++ more) at out further end
+  pub follows_on : {more : List ℕ} {last : ListWriter} → Follows more further last → Follows (groups ++ more) list last
   follows_on {more} g =
       record {
         words = f.words ++ g.words;
@@ -138,15 +141,13 @@ module _ {pending : Pending} {groups : List ℕ} {at : ℕ} {out : List ℕ} {li
 
 -- ---- one part of the groups after the other
 
-module _ {pending : Pending} {groups : List ℕ} {at : ℕ} {out₀ : List ℕ} (p : Fits pending groups at out₀) {listed : Listed} {out : List ℕ} (i : ℕ)
-    (f : Follows pending (take i groups) at out₀ listed out) where
-  pub part-fits : (count : ℕ) → Fits listed.pending (take count (drop i groups)) listed.written out
+module _ {groups : List ℕ} {list : ListWriter} (p : Fits groups list) {now : ListWriter} (i : ℕ) (f : Follows (take i groups) list now) where
+  pub part-fits : (count : ℕ) → Fits (take count (drop i groups)) now
   part-fits count =
       fits-front (take count (drop i groups)) (drop count (drop i groups))
       (rw take-append-drop (fits_on f (drop i groups) (rw take-append-drop p)))
 
-  pub part_follows : (end : ℕ) → i ≤ end → {further : Listed} {left : List ℕ}
-      → Follows listed.pending (take (end - i) (drop i groups)) listed.written out further left → Follows pending (take end groups) at out₀ further left
+  pub part_follows : (end : ℕ) → i ≤ end → {further : ListWriter} → Follows (take (end - i) (drop i groups)) now further → Follows (take end groups) list further
   part_follows end h g =
       let whole : end ≡ i + (end - i) = omega arith in
       rw (whole, take-add) (follows_on f g)
@@ -157,57 +158,57 @@ one_group groups i h =
     let one : i + 1 - i ≡ 1 = omega arith in
     rw (one, drop-cons groups i 0 h) refl
 
+-- a part of many groups, where the groups are cut into parts of one size
+pub nth_part : (size count : ℕ) (groups : List ℕ) (i : ℕ) → i < count → get_or (first_chunks size count groups) i [] ≡ take size (drop (i * size) groups)
+nth_part size zero groups i h = absurd (omega arith)
+nth_part size (suc count) groups zero h = rw zero-mul refl
+nth_part size (suc count) groups (suc i) h =
+    let further : suc i * size ≡ size + i * size = omega (arith, suc-mul i size) in
+    nth_part size count (drop size groups) i (omega arith) ∙ rw (drop-drop, further) refl
+
 -- ---- all groups, with the zeros behind the last one
 
--- no run is pending
-abbrev pub none : Pending
-none = zeros_pending 0
+module _ (total : ℕ) (groups out₀ : List ℕ)
+    (r : (length groups ≤ total) × (total ≤ 4096) × (total ≤ length out₀) × ((place : ℕ) → get_or out₀ place 0 ≡ 0))
+    (none : ListWriter) (b : (none.out.now ≡ out₀) × (none.written ≡ 0) × (none.pending ≡ no_run)) where
+  begun : Writing (padded total groups) (padded total groups) out₀ none.out.now none.written none.pending
+  begun = rw (b.0, b.1, b.2) (begins (padded total groups) out₀)
 
--- all are taken in, and what is pending is written
-module _ {groups out₀ : List ℕ} {listed : Listed} {out : List ℕ} (f : Follows none groups 0 out₀ listed out) where
-  whole : f.words ++ last_words listed.pending ≡ encode groups
-  whole = sym (rw append-nil at (f.law []))
+  room : length (encode (padded total groups)) ≤ length out₀
+  room = omega (arith, list-fits total groups r.0, r.2)
 
-  counted : listed.written + length (last_words listed.pending) ≡ length (encode groups)
-  counted = omega (arith, f.counts, simp length-append at (ap length whole))
+  no_count : none.pending.count ≡ 0
+  no_count = ap (λ (pending : Pending). pending.count) b.2
 
-  finished : length (encode groups) ≤ length out₀ → sets out listed.written (last_words listed.pending) ≡ encode groups ++ drop (length (encode groups)) out₀
-  finished h =
-      rw (f.writes, f.counts, ← sets-append, whole) (sets-eq (encode groups) out₀ 0 (omega arith) ∙ rw zero-add refl)
-
-module _ (total : ℕ) (groups out₀ : List ℕ) (few : length groups ≤ total) (many : total ≤ 4096) (long : total ≤ length out₀)
-    (zeros : (place : ℕ) → get_or out₀ place 0 ≡ 0) where
-  abbrev all_fit : Fits none (padded total groups) 0 out₀
+  all_fit : Fits (padded total groups) none
   all_fit =
-      record {
-        is_bit = omega arith;
-        few = omega (arith, length-padded total groups few);
-        behind = [];
-        room = rw append-nil (omega (arith, list-fits total groups few));
-        clear = λ place h. zeros place;
-      }
+      push_fits begun room (padded total groups) [] (sym (append-nil (padded total groups))) (omega (arith, no_count, r.1, length-padded total groups r.0))
 
-  pub groups_fit : Fits none groups 0 out₀
+  -- the groups fit
+  pub groups_fit : Fits groups none
   unfolding padded
   groups_fit = fits-front groups (replicate (total - length groups) 0) all_fit
 
-  module _ {listed : Listed} {out : List ℕ} (f : Follows none groups 0 out₀ listed out) {step : Step}
-      (t : Takes listed.pending (replicate (total - length groups) 0) step) where
-    pub zeros_fit : listed.written + step.words ≤ length out
+  pub clear_none : Clear none
+  clear_none = record { behind = λ place h. rw b.0 (r.3 place) }
+
+  module _ {some : ListWriter} (f : Follows groups none some) where
+    -- and so do the zeros behind them
+    pub zeros_fit : Fits (replicate (total - length groups) 0) some
     unfolding padded
-    zeros_fit = step_fits (fits_on f (replicate (total - length groups) 0) all_fit) t
+    zeros_fit = fits_on f (replicate (total - length groups) 0) all_fit
 
-    abbrev last : Listed
-    last = record { written = listed.written + step.words; pending = step.pending }
+    module _ {all : ListWriter} (g : Follows (replicate (total - length groups) 0) some all) where
+      all_follow : Follows (padded total groups) none all
+      unfolding padded
+      all_follow = follows_on f g
 
-    all_follow : Follows none (padded total groups) 0 out₀ last (sets out listed.written (written step))
-    unfolding padded
-    all_follow = follows_on f (follows_step t refl refl refl)
+      done : Writing (padded total groups) [] out₀ all.out.now all.written all.pending
+      done = push_on begun room (padded total groups) [] (sym (append-nil (padded total groups))) all_follow
 
-    pub last_fits : listed.written + step.words + length (last_words step.pending) ≤ length (sets out listed.written (written step))
-    last_fits = omega (arith, counted all_follow, list-fits total groups few, length_left all_follow)
+      pub all_close : Closes all
+      all_close = closes done room refl (omega (arith, all_follow.grows, no_count, r.1, length-padded total groups r.0))
 
-    pub ends : (listed.written + step.words + length (last_words step.pending) ≡ length (encode (padded total groups)))
-        × (sets (sets out listed.written (written step)) (listed.written + step.words) (last_words step.pending)
-        ≡ encode (padded total groups) ++ drop (listed.written + step.words + length (last_words step.pending)) out₀)
-    ends = (counted all_follow, rw (counted all_follow) (finished all_follow (omega (arith, list-fits total groups few))))
+      pub all_ends : (all.written + length (last_words all.pending) ≡ length (encode (padded total groups)))
+          × (sets all.out.now all.written (last_words all.pending) ≡ encode (padded total groups) ++ drop (all.written + length (last_words all.pending)) out₀)
+      all_ends = ends done room refl

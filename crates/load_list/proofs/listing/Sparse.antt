@@ -1,6 +1,6 @@
 -- Groups that are not all ones after groups without a 1: the step that takes one in, its words written without a branch, and the test for them. Assumes nothing.
-use mathlib.Core.Path.{◌≡◌, refl, ◌∙◌, ap}
-use mathlib.Core.Bool.{Bool, true, false, not, cond, ◌&&◌, and-true, and-false, and-eq-true_iff}
+use mathlib.Core.Path.{◌≡◌, refl, ◌∙◌, ap, sym, subst}
+use mathlib.Core.Bool.{Bool, true, false, not, cond, ◌&&◌, ◌||◌, and-true, and-eq-true_iff}
 use mathlib.Core.List.{List, [], ◌∷◌}
 use Prim.Native.Nat.{ℕ, zero, suc, ◌+◌, ◌*◌, ◌<◌, ◌≤◌}
 use native.Mathlib.Nat.{add-zero, zero-mul, mul-zero}
@@ -44,6 +44,10 @@ module _ (zeros group : ℕ) (dense : group ≡ all_ones → ⊥) where
 -- a pending run that is one of groups without a 1
 pub zeros-run : (pending : Pending) → pending.bit ≡ 0 → pending ≡ zeros_pending pending.count
 zeros-run pending e = ap (λ (bit : ℕ). record { bit = bit; count = pending.count }) e
+
+pub sparse_taken : (pending : Pending) (group : ℕ) → pending.bit ≡ 0 → (group ≡ all_ones → ⊥) → Takes pending (group ∷ []) (sparse_step pending.count group)
+sparse_taken pending group e dense =
+    subst (λ (run : Pending). Takes run (group ∷ []) (sparse_step run.count group)) (sym (zeros-run pending e)) (sparse_takes pending.count group dense)
 
 -- what is pending then are groups without a 1
 pub sparse_pending : (zeros group count : ℕ) → count ≡ (sparse_step zeros group).pending.count → zeros_pending count ≡ (sparse_step zeros group).pending
@@ -118,15 +122,14 @@ none-full (group ∷ groups) e (suc i) h is =
     none-full groups both.1 i (omega arith) is
 
 -- the loop that looks for a group of all ones: a turn, and the end
-module _ (groups : List ℕ) (full i : ℕ) where
-  pub full-more : i < length groups → (next : ℕ) → (get_or groups i 0 ≡ all_ones → next ≡ 1) → ((get_or groups i 0 ≡ all_ones → ⊥) → next ≡ full)
-      → eqb full 0 && none_full (drop i groups) ≡ eqb next 0 && none_full (drop (i + 1) groups)
-  full-more h next found kept = rw (drop-cons groups i 0 h, add-one) (go (eqb (get_or groups i 0) all_ones) refl)
+module _ (groups : List ℕ) (full : Bool) (i : ℕ) where
+  pub full-more : i < length groups
+      → not full && none_full (drop i groups) ≡ not (full || eqb (get_or groups i 0) all_ones) && none_full (drop (i + 1) groups)
+  full-more h = rw (drop-cons groups i 0 h, add-one) (go full (eqb (get_or groups i 0) all_ones) (none_full (drop (suc i) groups)))
     where
-      go : (t : Bool) → eqb (get_or groups i 0) all_ones ≡ t
-          → eqb full 0 && (not t && none_full (drop (suc i) groups)) ≡ eqb next 0 && none_full (drop (suc i) groups)
-      go true e = rw (found (eqb-true (get_or groups i 0) all_ones e)) (and-false (eqb full 0))
-      go false e = rw (kept (eqb-false (get_or groups i 0) all_ones e)) refl
+      go : (full is behind : Bool) → not full && (not is && behind) ≡ not (full || is) && behind
+      go true is behind = refl
+      go false is behind = refl
 
-  pub full_all : length groups ≤ i → eqb full 0 && none_full (drop i groups) ≡ eqb full 0
-  full_all h = rw (drop_of_length-le groups h) (and-true (eqb full 0))
+  pub full_all : length groups ≤ i → not full && none_full (drop i groups) ≡ not full
+  full_all h = rw (drop_of_length-le groups h) (and-true (not full))

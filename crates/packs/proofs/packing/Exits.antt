@@ -1,4 +1,5 @@
 -- The exits of Pack: each gives the outcome that document 01 names. Assumes nothing.
+use Rattle.std.specs.Prelude.{Err}
 use mathlib.Core.Path.{◌≡◌, refl}
 use mathlib.Core.Bool.{true, false}
 use mathlib.Core.List.{List}
@@ -7,18 +8,17 @@ use lib.ListN.{length}
 use borrow.Author.Tests.{lt-ltb, le-ltb}
 use Rattle.answers.specs.Outcome.{Gives}
 use Rattle.answers.specs.Inner.{given}
-use Rattle.answers.specs.declared.Answer.TheVariants.{Refused}
 use Rattle.answers.specs.declared.Refusal.TheVariants.{BadValue, Full}
 use Rattle.groups.specs.Rows.{row_limit, are_bits}
 use Rattle.words.specs.Words.{packed}
 use Rattle.packs.specs.Calls.{pack_outcome}
 
 module _ (rows out : List ℕ) where
-  pub bad_value_lem : are_bits rows ≡ false → Gives (pack_outcome rows out) (Refused BadValue) out
+  pub bad_value_lem : are_bits rows ≡ false → Gives (pack_outcome rows out) (Err BadValue) out
   unfolding pack_outcome
   bad_value_lem bits = rw bits (record { answers = refl; leaves = refl })
 
-  pub full : are_bits rows ≡ true → row_limit < length rows → Gives (pack_outcome rows out) (Refused Full) out
+  pub full : are_bits rows ≡ true → row_limit < length rows → Gives (pack_outcome rows out) (Err Full) out
   unfolding pack_outcome
   full bits many = rw (bits, lt-ltb row_limit (length rows) many) (record { answers = refl; leaves = refl })
 

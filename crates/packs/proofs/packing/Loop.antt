@@ -1,55 +1,90 @@
 -- The loop of Pack: the groups of the rows passed are written, those of the others are still to come. Assumes nothing.
-use mathlib.Core.Path.{◌≡◌, refl, ◌∙◌}
+use mathlib.Core.Path.{◌≡◌, refl, ap}
+use mathlib.Core.Bool.{true}
 use mathlib.Core.List.{List, [], ◌∷◌, ◌++◌}
-use Prim.Native.Nat.{ℕ, min, ◌+◌, ◌-◌, ◌<◌, ◌≤◌}
+use Prim.Native.Nat.{ℕ, min, ◌+◌, ◌<◌, ◌≤◌}
 use native.Mathlib.Omega.{arith}
-use lib.ListN.{length, take, drop}
-use lib.Seq.{sets}
-use Rattle.groups.specs.Rows.{group_of, groups_of}
+use native.Mathlib.Nat.{sub-zero}
+use lib.ListN.{length, take, drop, length-append}
+use lib.Seq.{sets, take-append_seam, drop_at}
+use Rattle.groups.specs.Rows.{row_limit, are_bits, group_of, groups_of}
 use Rattle.words.specs.Words.{packed}
-use Rattle.words.specs.Inner.{written, last_words, Takes}
-use Rattle.words.specs.declared.writer.Pending.{Pending}
-use Rattle.words.specs.declared.writer.Step.{Step}
-use Rattle.words.proofs.Writing.{Writing, begins, step_fits, step_on, last_fits, ends}
+use Rattle.words.specs.Inner.{last_words, no_run, Fits, Follows, Closes}
+use Rattle.words.specs.declared.writer.ListWriter.{ListWriter}
+use Rattle.words.proofs.Writing.{Writing, begins, push_fits, push_on, closes, ends}
+use Rattle.groups.proofs.Bits.{are_bits-take, are_bits-drop}
 use Rattle.groups.proofs.Groups.{groups_of-next, groups_of-past}
 
--- the rows before `at` are passed
-pub record Packing (rows out₀ out : List ℕ) (pending : Pending) (words at : ℕ) : Type 0 where
-  pub within : at ≤ length rows
-  pub few : pending.count ≤ at
-  pub writing : Writing (groups_of rows) (groups_of (drop at rows)) out₀ out words pending
+-- the rows `left` are still to come
+pub record Packing (rows left out₀ : List ℕ) (list : ListWriter) : Type 0 where
+  pub bits : are_bits left ≡ true
+  pub few : list.pending.count + length left ≤ length rows
+  pub writing : Writing (groups_of rows) (groups_of left) out₀ list.out.now list.written list.pending
 
-pub starts : (rows out : List ℕ) → Packing rows out out (record { bit = 0; count = 0 }) 0 0
-starts rows out = record { within = omega arith; few = omega arith; writing = begins (groups_of rows) out }
+pub starts : (rows left out : List ℕ) (list : ListWriter) → left ≡ rows → are_bits rows ≡ true
+    → (list.out.now ≡ out) × (list.written ≡ 0) × (list.pending ≡ no_run) → Packing rows left out list
+starts rows left out list e bits b =
+    record {
+      bits = rw e bits;
+      few = rw (b.2, e) (omega arith);
+      writing = rw (b.0, b.1, b.2, e) (begins (groups_of rows) out);
+    }
 
-module _ {rows out₀ out : List ℕ} {pending : Pending} {words at : ℕ} (p : Packing rows out₀ out pending words at) (room : length (packed rows) ≤ length out₀)
-  where
-    -- a step takes in the group of the next rows
-    module _ (end group : ℕ) (step : Step) (more : at < length rows) (e : end ≡ min (at + 31) (length rows))
-        (g : group ≡ group_of 31 (take (end - at) (drop at rows))) (t : Takes pending (group ∷ []) step) where
-      next : groups_of (drop at rows) ≡ (group ∷ []) ++ groups_of (drop end rows)
-      next = groups_of-next rows at end more e ∙ rw (← g) refl
+-- the next rows of those that are left, and the rest
+pub record Cut (left part rest : List ℕ) : Type 0 where
+  pub parts : left ≡ part ++ rest
+  pub long : length part ≡ min 31 (length left)
+  pub some : 0 < length left
 
-      pub turn_fits : words + step.words ≤ length out
-      unfolding packed
-      turn_fits = step_fits p.writing room (group ∷ []) (groups_of (drop end rows)) step next t
+pub cut_of : {left part rest : List ℕ} {size : ℕ} → size ≡ 31 → (left ≡ part ++ rest) × (length part ≡ min size (length left)) × (0 < length left) → Cut left part rest
+cut_of thirty c = record { parts = c.0; long = rw thirty at c.1; some = c.2 }
 
-      pub turns : Packing rows out₀ (sets out words (written step)) step.pending (words + step.words) end
-      unfolding packed
-      turns =
-          record {
-            within = omega (arith, e);
-            few = omega (arith, t.grows, p.few, e);
-            writing = step_on p.writing room (group ∷ []) (groups_of (drop end rows)) step next t;
-          }
+module _ {left part rest : List ℕ} (c : Cut left part rest) where
+  front : take (length part) left ≡ part
+  front = rw (c.parts, take-append_seam) refl
 
-    -- all rows are passed
-    module _ (done : length rows ≤ at) where
-      pub finish_fits : words + length (last_words pending) ≤ length out
-      unfolding packed
-      finish_fits = last_fits p.writing room (groups_of-past rows at done)
+  back : drop (length part) left ≡ rest
+  back = rw c.parts (drop_at part rest (length part) refl)
 
-      pub finishes : (words + length (last_words pending) ≡ length (packed rows))
-          × (sets out words (last_words pending) ≡ packed rows ++ drop (words + length (last_words pending)) out₀)
-      unfolding packed
-      finishes = ends p.writing room (groups_of-past rows at done)
+  next : groups_of left ≡ (group_of 31 part ∷ []) ++ groups_of rest
+  next = rw (sub-zero, front, back) at (groups_of-next left 0 (length part) c.some c.long)
+
+  pub part_bits : are_bits left ≡ true → are_bits part ≡ true
+  part_bits bits = rw front at (are_bits-take (length part) left bits)
+
+  rest_bits : are_bits left ≡ true → are_bits rest ≡ true
+  rest_bits bits = rw back at (are_bits-drop (length part) left bits)
+
+module _ {rows left out₀ : List ℕ} {list : ListWriter} (p : Packing rows left out₀ list) (limit : length rows ≤ row_limit)
+    (room : length (packed rows) ≤ length out₀) where
+  -- the group of the next rows is taken in
+  module _ {part rest : List ℕ} (c : Cut left part rest) (group : ℕ) (g : group ≡ group_of 31 part) where
+    group_next : groups_of left ≡ (group ∷ []) ++ groups_of rest
+    group_next = rw g (next c)
+
+    pub turn_fits : Fits (group ∷ []) list
+    unfolding packed
+    turn_fits = push_fits p.writing room (group ∷ []) (groups_of rest) group_next (omega (arith, p.few, limit, c.some))
+
+    pub turns : {further : ListWriter} → Follows (group ∷ []) list further → Packing rows rest out₀ further
+    unfolding packed
+    turns f =
+        record {
+          bits = rest_bits c p.bits;
+          few = omega (arith, f.grows, p.few, c.long, c.some, length-append part rest, ap length c.parts);
+          writing = push_on p.writing room (group ∷ []) (groups_of rest) group_next f;
+        }
+
+  -- no row is left
+  module _ (done : length left ≡ 0) where
+    past : groups_of left ≡ []
+    past = groups_of-past left 0 (omega arith)
+
+    pub finish_fits : Closes list
+    unfolding packed
+    finish_fits = closes p.writing room past (omega (arith, p.few, limit))
+
+    pub finishes : (list.written + length (last_words list.pending) ≡ length (packed rows))
+        × (sets list.out.now list.written (last_words list.pending) ≡ packed rows ++ drop (list.written + length (last_words list.pending)) out₀)
+    unfolding packed
+    finishes = ends p.writing room past

@@ -1,4 +1,5 @@
 -- One round of printing: a value is asked for, and its line written after the others. Assumes nothing.
+use Rattle.std.specs.Prelude.{Result}
 use mathlib.Core.Path.{◌≡◌, ◌∙◌}
 use mathlib.Core.List.{List}
 use Prim.Native.Nat.{ℕ, ◌+◌, ◌<◌, ◌≤◌}
@@ -6,13 +7,13 @@ use lib.ListN.{length}
 use lib.Seq.{sets}
 use Rattle.answers.specs.Numbers.{paper}
 use Rattle.answers.specs.Outcome.{Gives}
-use Rattle.answers.specs.declared.Answer.{Answer}
 use Rattle.memory.specs.Memory.{Memory, memory_of}
 use Rattle.index.specs.Calls.{query_outcome}
 use Rattle.memory.specs.declared.header.Header.{Header}
 use Rattle.block_read.specs.declared.fence.Fence.{Fence}
 use Rattle.print.specs.Printed.{answer_line, query_line, value_lines}
 use Rattle.print.proofs.Lines.{asked-count, asked_line, line_fits, line_added}
+use Rattle.answers.specs.declared.Refusal.{Refusal}
 
 module _ (words : List ℕ) (fences : List Fence) (header : Header) (list out : List ℕ)
     (req : (length list ≡ 4096) × (length (value_lines header (memory_of words fences) header.values) ≤ length out)) where
@@ -21,7 +22,7 @@ module _ (words : List ℕ) (fences : List Fence) (header : Header) (list out : 
 
   module _ (value : ℕ) (below : value < header.values) (now-list : List ℕ) (as_long : length now-list ≡ length list)
       (now-out : List ℕ) (as_wide : length now-out ≡ length out) (next : ℕ) (at : next ≡ length (value_lines header memory value))
-      (answer : Answer) (left : List ℕ) (gives : Gives (query_outcome header memory value now-list) answer left) where
+      (answer : Result ℕ Refusal) (left : List ℕ) (gives : Gives (query_outcome header memory value now-list) answer left) where
     line : answer_line value (paper answer) left ≡ query_line header memory value
     line = asked_line header memory value now-list (as_long ∙ req.0) answer left gives
 

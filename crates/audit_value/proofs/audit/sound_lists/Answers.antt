@@ -11,21 +11,21 @@ returns-in_default c =
 
 pub lists_clear-requires : goal.lists_clear-requires
 lists_clear-requires c =
-    (c.requires.0, c.requires.1, intact-whole c.args.sizes c.args.block.now c.in-Intact.field-0 (sym c.in-Intact.is ∙ c.check_lists.ensures), omega arith)
+    (c.requires.0, intact-whole c.args.sizes c.args.block.now c.in-Some.field-0 (sym c.in-Some.is ∙ c.check_lists.ensures), omega arith)
 
 pub returns-then-not-lists_clear : goal.returns-then-not-lists_clear
 returns-then-not-lists_clear c =
     let clear = c.lists_clear in
-    not_clear c.args.sizes c.args.issued c.args.block.now c.in-Intact.field-0 (sym c.in-Intact.is ∙ c.check_lists.ensures)
+    not_clear c.args.sizes c.args.issued c.args.block.now c.in-Some.field-0 (sym c.in-Some.is ∙ c.check_lists.ensures)
     clear.result clear.ensures c.if-not-lists_clear.true
 
 pub unused_zero-requires : goal.unused_zero-requires
 unused_zero-requires c =
-    (c.requires.0, c.requires.1, intact-whole c.args.sizes c.args.block.now c.in-Intact.field-0 (sym c.in-Intact.is ∙ c.check_lists.ensures))
+    (c.requires.0, intact-whole c.args.sizes c.args.block.now c.in-Some.field-0 (sym c.in-Some.is ∙ c.check_lists.ensures))
 
 pub returns : goal.returns
 returns c =
     let clear = c.lists_clear in
-    unused_decides c.args.sizes c.args.issued c.args.block.now c.in-Intact.field-0
-    (sym c.in-Intact.is ∙ c.check_lists.ensures) clear.result clear.ensures
+    unused_decides c.args.sizes c.args.issued c.args.block.now c.in-Some.field-0
+    (sym c.in-Some.is ∙ c.check_lists.ensures) clear.result clear.ensures
     c.if-not-lists_clear.false c.unused_zero.result c.unused_zero.ensures

@@ -8,11 +8,11 @@ use Rattle.audit_value.proofs.audit.unused_zero.Goals as goal
 
 pub value_unused-value-requires : goal.value_unused-value-requires
 value_unused-value-requires c =
-    (c.requires.0, c.requires.1, (whole_parts c.args.sizes c.args.block.now c.requires.2).value_short)
+    (c.requires.0, (whole_parts c.args.sizes c.args.block.now c.requires.1).value_short)
 
 pub update_unused-update-requires : goal.update_unused-update-requires
 update_unused-update-requires c =
-    (c.requires.0, c.requires.1, (whole_parts c.args.sizes c.args.block.now c.requires.2).update_short)
+    (c.requires.0, (whole_parts c.args.sizes c.args.block.now c.requires.1).update_short)
 
 pub returns-then-not-all_zero : goal.returns-then-not-all_zero
 unfolding unused_zero

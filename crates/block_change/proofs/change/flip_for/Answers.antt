@@ -4,21 +4,21 @@ use Rattle.blocks.proofs.whole.Verdict.{faulty_whole, intact-whole, intact-ones}
 use Rattle.block_change.specs.Inner.{flip_for}
 use Rattle.block_change.proofs.change.flip_for.Goals as goal
 
-pub returns-in_default : goal.returns-in_default
+pub returns-in_err-ones : goal.returns-in_err-ones
 unfolding flip_for
-returns-in_default c =
+returns-in_err-ones c =
     let a = c.args in
-    rw (faulty_whole a.sizes a.block.now (sym c.in_default.is ∙ c.check_lists.ensures)) refl
+    rw (c.from_residual.ensures, faulty_whole a.sizes a.block.now (sym c.in_err-ones.was ∙ c.check_lists.ensures)) refl
 
 pub merge_due-requires : goal.merge_due-requires
 merge_due-requires c =
     let a = c.args in
-    let finds = sym c.in-Intact.is ∙ c.check_lists.ensures in
-    (c.requires.0, c.requires.1, intact-whole a.sizes a.block.now _ finds, c.requires.2, intact-ones a.sizes a.block.now _ finds)
+    let finds = sym c.in_ok-ones.was ∙ c.check_lists.ensures in
+    (c.requires.0, intact-whole a.sizes a.block.now _ finds, c.requires.1, intact-ones a.sizes a.block.now _ finds)
 
 pub returns : goal.returns
 unfolding flip_for
 returns c =
     let a = c.args in
-    let finds = sym c.in-Intact.is ∙ c.check_lists.ensures in
+    let finds = sym c.in_ok-ones.was ∙ c.check_lists.ensures in
     rw (intact-whole a.sizes a.block.now _ finds, c.merge_due.ensures) refl

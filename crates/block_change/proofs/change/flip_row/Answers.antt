@@ -6,6 +6,7 @@ use Prim.Native.Nat.{ℕ}
 use Rattle.blocks.specs.declared.sizes.Sizes.{Sizes}
 use Rattle.block_change.specs.Change.{merged, merge_due, flipped}
 use Rattle.block_change.proofs.Flipping.{before, ready, turn_fits}
+use Rattle.blocks.proofs.Opened.{limits_of}
 use Rattle.block_change.proofs.change.flip_row.Goals as goal
 use Rattle.block_change.proofs.change.flip_row.Goals.{then-merges, else-merges}
 
@@ -20,20 +21,20 @@ module _ (sizes : Sizes) (row : ℕ) (now : List ℕ) {merges : Bool} (due : mer
 pub turn-requires : goal.turn-requires
 turn-requires c =
     let a = c.args in
-    let is = ready a.sizes c.requires.0 a.row a.block.now c.requires.1 c.requires.2 in
-    let fits = turn_fits a.sizes c.requires.0 a.row c.requires.3 a.block.now c.requires.1 c.requires.2 in
+    let is = ready a.sizes (limits_of c.sizes.view_is c.sizes.invariant) a.row a.block.now c.requires.0 c.requires.1 in
+    let fits = turn_fits a.sizes (limits_of c.sizes.view_is c.sizes.invariant) a.row c.requires.2 a.block.now c.requires.0 c.requires.1 in
     let half : c.if-merges.block ≡ before a.sizes a.row a.block.now = elim c.if-merges.branch [
-      | then-merges w ↦ merges_first a.sizes a.row a.block.now c.requires.4 w.if-merges.true (w.block-is ∙ w.merge.ensures)
-      | else-merges w ↦ turns_at_once a.sizes a.row a.block.now c.requires.4 w.if-merges.false w.block-is
+      | then-merges w ↦ merges_first a.sizes a.row a.block.now c.requires.3 w.if-merges.true (w.block-is ∙ w.merge.ensures)
+      | else-merges w ↦ turns_at_once a.sizes a.row a.block.now c.requires.3 w.if-merges.false w.block-is
     ] in
-    (c.requires.0, rw half is.long, rw half is.whole, c.requires.3, rw half fits)
+    (rw half is.long, rw half is.whole, c.requires.2, rw half fits)
 
 pub returns : goal.returns
 unfolding flipped
 returns c =
     let a = c.args in
     let half : c.if-merges.block ≡ before a.sizes a.row a.block.now = elim c.if-merges.branch [
-      | then-merges w ↦ merges_first a.sizes a.row a.block.now c.requires.4 w.if-merges.true (w.block-is ∙ w.merge.ensures)
-      | else-merges w ↦ turns_at_once a.sizes a.row a.block.now c.requires.4 w.if-merges.false w.block-is
+      | then-merges w ↦ merges_first a.sizes a.row a.block.now c.requires.3 w.if-merges.true (w.block-is ∙ w.merge.ensures)
+      | else-merges w ↦ turns_at_once a.sizes a.row a.block.now c.requires.3 w.if-merges.false w.block-is
     ] in
     c.turn.ensures ∙ rw half refl

@@ -6,11 +6,12 @@ use Rattle.blocks.specs.Block.{current}
 use Rattle.block_change.specs.Change.{merged}
 use Rattle.blocks.proofs.EmptyUpdates.{emptied-written}
 use Rattle.blocks.proofs.WholeLists.{current-fits}
+use Rattle.blocks.proofs.Opened.{limits_of}
 use Rattle.block_change.proofs.change.merge.Goals as goal
 
 pub put_value-requires : goal.put_value-requires
 put_value-requires c =
-    let fits = current-fits c.args.sizes c.requires.0 c.args.block.now c.requires.2 in
+    let fits = current-fits c.args.sizes (limits_of c.sizes.view_is c.sizes.invariant) c.args.block.now c.requires.1 in
     search rules
 
 pub returns : goal.returns
@@ -20,7 +21,7 @@ returns c =
     let made = c.current_into-count in
     let put = c.put_value in
     let cleared = c.clear_update in
-    emptied-written a.sizes c.requires.0 (encode (current a.sizes a.block.now))
-    (current-fits a.sizes c.requires.0 a.block.now c.requires.2) a.block.now c.requires.1
+    emptied-written a.sizes (limits_of c.sizes.view_is c.sizes.invariant) (encode (current a.sizes a.block.now))
+    (current-fits a.sizes (limits_of c.sizes.view_is c.sizes.invariant) a.block.now c.requires.1) a.block.now c.requires.0
     made.result 4096 made.new.out put.new.block cleared.new.block
     made.ensures.0 (omega arith) made.ensures.1 put.ensures cleared.ensures

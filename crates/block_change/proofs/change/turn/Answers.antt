@@ -8,5 +8,5 @@ returns c =
     let a = c.args in
     let made = c.turned_into-count in
     let put = c.put_update in
-    turned-written a.sizes a.row a.block.now c.requires.4 made.result 511 made.new.out put.new.block
+    turned-written a.sizes a.row a.block.now c.requires.3 made.result 511 made.new.out put.new.block
     made.ensures.0 (omega arith) made.ensures.1 put.ensures

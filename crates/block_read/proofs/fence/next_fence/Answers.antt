@@ -6,14 +6,15 @@ use lib.ListN.{length}
 use Rattle.block_read.specs.Fences.{locate_from}
 use Rattle.blocks.proofs.Blocks.{length-value_list}
 use Rattle.blocks.proofs.SizeLaws.{few_words}
+use Rattle.blocks.proofs.Opened.{limits_of}
 use Rattle.block_read.proofs.fence.next_fence.Goals as goal
 
 pub locate_from-requires : goal.locate_from-requires
 locate_from-requires c =
     let a = c.args in
-    let long = ap length c.value_list.ensures ∙ length-value_list a.sizes a.block.now c.requires.1 c.requires.2 in
-    let few = few_words a.sizes c.requires.0 in
-    (omega arith, omega arith, c.requires.4, c.requires.5)
+    let long = ap length c.value_list.ensures ∙ length-value_list a.sizes a.block.now c.requires.0 c.requires.1 in
+    let few = few_words a.sizes (limits_of c.sizes.view_is c.sizes.invariant) in
+    (omega arith, omega arith, c.requires.3, c.requires.4)
 
 pub returns : goal.returns
 returns c =

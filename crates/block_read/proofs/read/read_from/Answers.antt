@@ -2,8 +2,8 @@
 use mathlib.Core.Path.{refl}
 use Rattle.block_read.proofs.read.read_from.Goals as goal
 
-pub returns-in_default : goal.returns-in_default
-returns-in_default c = rw (← c.walk_to.ensures, c.in_default.is) refl
+pub returns-in_err-covering : goal.returns-in_err-covering
+returns-in_err-covering c = rw (c.from_residual.ensures, ← c.walk_to.ensures, c.in_err-covering.was) refl
 
 pub returns : goal.returns
-returns c = rw (← c.walk_to.ensures, c.in-Covered.is, c.group_in.ensures) refl
+returns c = rw (← c.walk_to.ensures, c.in_ok-covering.was, c.group_in.ensures) refl

@@ -6,23 +6,23 @@ use Rattle.block_read.proofs.Readings.{group_says}
 use Rattle.block_read.proofs.read.Exits.{broken_update, group_joined}
 use Rattle.block_read.proofs.read.read_group.Goals as goal
 
-pub returns-in_default : goal.returns-in_default
+pub returns-in_err-update : goal.returns-in_err-update
 unfolding read_group
-returns-in_default c =
+returns-in_err-update c =
     let args = c.args in
     let value = read_value args.sizes args.fence args.group args.block.now in
-    rw (← c.read_update.ensures, c.in_default.is) (broken_update value)
+    rw (c.from_residual.ensures, ← c.read_update.ensures, c.in_err-update.was) (broken_update value)
 
-pub returns-in_default-read_value : goal.returns-in_default-read_value
+pub returns-in_err-value : goal.returns-in_err-value
 unfolding read_group
-returns-in_default-read_value c = rw (← c.read_value.ensures, c.in_default-read_value.is) refl
+returns-in_err-value c = rw (c.from_residual-in_err-value.ensures, ← c.read_value.ensures, c.in_err-value.was) refl
 
 pub returns : goal.returns
 returns c =
     let args = c.args in
     let update-asked = c.read_update.ensures in
-    let update = c.in-Group.is in
-    let value = sym c.read_value.ensures ∙ c.in-Group-read_value.is in
+    let update = c.in_ok-update.was in
+    let value = sym c.read_value.ensures ∙ c.in_ok-value.was in
     group_joined args.sizes args.block.now args.fence args.group _ _ _ _ value (sym update-asked ∙ update)
 
 pub overflow_add-result : goal.overflow_add-result

@@ -4,4 +4,4 @@ use Rattle.blocks.proofs.Parts.{value-front_slice}
 use Rattle.blocks.proofs.layout.value_front.Goals as goal
 
 pub returns : goal.returns
-returns c = value-front_slice c.args.sizes c.args.block.now c.args.count _ _ refl refl c.requires.2
+returns c = value-front_slice c.args.sizes c.args.block.now c.args.count _ _ refl refl c.requires.1

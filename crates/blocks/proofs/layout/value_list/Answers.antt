@@ -4,4 +4,4 @@ use Rattle.blocks.proofs.Parts.{value_slice}
 use Rattle.blocks.proofs.layout.value_list.Goals as goal
 
 pub returns : goal.returns
-returns c = value_slice c.args.sizes c.args.block.now 2 _ refl refl c.requires.2
+returns c = value_slice c.args.sizes c.args.block.now 2 _ refl refl c.requires.1

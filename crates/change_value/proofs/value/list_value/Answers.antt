@@ -10,7 +10,7 @@ unfolding whole
 list_current-requires c =
     let a = c.args in
     let same = c.block_of.ensures in
-    (c.requires.0, ap length same ∙ length-block_at a.sizes a.words.now a.value c.requires.1, rw same c.requires.2)
+    (ap length same ∙ length-block_at a.sizes a.words.now a.value c.requires.0, rw same c.requires.1)
 
 pub returns : goal.returns
 returns c = rw c.block_of.ensures at c.list_current.ensures

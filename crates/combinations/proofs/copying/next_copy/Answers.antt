@@ -1,18 +1,10 @@
 -- `next_copy` copies nothing, or the words that `reach_of` passes after a run that ends there.
-use mathlib.Core.Path.{◌≡◌, ◌∙◌, sym}
-use mathlib.Core.List.{List}
-use Prim.Native.Nat.{ℕ, ◌-◌}
+use mathlib.Core.Path.{◌∙◌, sym}
 use native.Mathlib.Omega.{arith}
-use lib.ListN.{length, take, drop, length-drop}
-use lib.Seq.{take_all}
 use Rattle.words.proofs.Forms.{length_split}
 use Rattle.combinations.proofs.span.Opening.{length-remaining}
-use Rattle.combinations.proofs.copying.Passing.{copies_some}
+use Rattle.combinations.proofs.copying.Passing.{all-behind, copies_some}
 use Rattle.combinations.proofs.copying.next_copy.Goals as goal
-
--- the words from a place on, as they are lent
-all-behind : (list : List ℕ) (place : ℕ) → take (length list - place) (drop place list) ≡ drop place list
-all-behind list place = take_all (length list - place) (drop place list) (omega (arith, length-drop place list))
 
 pub reach_of-reach-requires : goal.reach_of-reach-requires
 reach_of-reach-requires c =

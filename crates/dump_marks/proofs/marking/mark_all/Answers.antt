@@ -10,9 +10,9 @@ loop-row-init c = begin _ _ c.args.rows.now
 
 pub loop-row-preserved : goal.loop-row-preserved
 loop-row-preserved c =
-    let ones = ones-set c.loop-row.row in
-    next_row _ _ c.loop-row.invariant c.loop-row-test.true _ _ (omega arith)
-    (rw (c.loop-row.invariant.left c.loop-row.row (omega arith), ones) refl) (rw ones refl)
+    let ones = ones-set c.loop-row.row-index in
+    next_row _ _ c.loop-row.invariant (omega arith) _ _ (omega arith)
+    (rw (c.loop-row.invariant.left c.loop-row.row-index (omega arith), ones) refl) (rw ones refl)
 
 pub returns : goal.returns
-returns c = let all = ends _ _ c.loop-row.invariant c.loop-row-test.false in (all.0, λ yes. all.1)
+returns c = let all = ends _ _ c.loop-row.invariant (omega arith) in (all.0, λ yes. all.1)

@@ -12,5 +12,5 @@ returns-then-is_many c =
 
 pub returns : goal.returns
 returns c =
-    told_part c.args.bits c.args.group c.args.end c.args.issued c.args.rows.now _ (omega arith) (omega arith) c.smaller-stop.ensures c.args.value
+    told_part c.args.bits c.args.group c.args.end c.args.issued c.args.rows.now _ (omega arith) (omega arith) c.min-stop.ensures c.args.value
     c.mark_alike.ensures

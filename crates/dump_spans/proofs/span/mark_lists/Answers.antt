@@ -1,6 +1,7 @@
 -- `mark_lists` meets its contract. The loop's invariant: the groups before `group` are marked, and `v` and `u` are the words that cover `group`.
 -- Assumes nothing.
-use mathlib.Core.Path.{◌≡◌, ◌∙◌, refl, sym}
+use Rattle.std.specs.Prelude.{None, Option, Some}
+use mathlib.Core.Path.{◌≡◌, ◌∙◌, sym}
 use mathlib.Core.Bool.{Bool, true, false}
 use mathlib.Core.List.{List}
 use Prim.Native.Nat.{ℕ, ◌+◌, ◌-◌, ◌<◌, ◌≤◌}
@@ -12,27 +13,25 @@ use Rattle.words.specs.Words.{run_of, group_in}
 use Rattle.words.specs.Inner.{Alone}
 use Rattle.list_walk.specs.Walk.{walk_to}
 use Rattle.list_walk.specs.declared.walk.Covering.{Covering}
-use Rattle.list_walk.specs.declared.walk.Walk.{Walk}
-use Rattle.list_walk.specs.declared.walk.Walk.TheVariants.{Covered}
 use Rattle.blocks.specs.declared.sizes.Sizes.{Sizes}
 use Rattle.block_read.specs.declared.read.Reading.{Reading}
-use Rattle.block_read.specs.declared.read.Reading.TheVariants.{Broken}
 use Rattle.dump_marks.specs.Inner.{alike}
 use Rattle.dump_spans.specs.Inner.{in_lists}
 use Rattle.dump_spans.proofs.span.Spanning.{Spanned, Spanning, begin, keeps_length, ends, next-groups, stops_at, breaks_at}
 use Rattle.dump_spans.proofs.span.Reaching.{Reached, bits_small, value_broken, update_broken, read_alike}
+use Rattle.blocks.proofs.Opened.{spacing_read, update_room_read}
 use Rattle.dump_spans.proofs.span.mark_lists.Goals as goal
 
 -- the first group is not read
-none_read : (reading : ℕ → Reading) (issued value from to : ℕ) (rows : List ℕ) → from < to → to ≤ groups_for issued → issued ≤ length rows
-    → reading from ≡ Broken → Spanned reading issued value from to rows rows false
+none_read : (reading : ℕ → Option Reading) (issued value from to : ℕ) (rows : List ℕ) → from < to → to ≤ groups_for issued → issued ≤ length rows
+    → reading from ≡ None → Spanned reading issued value from to rows rows false
 none_read reading issued value from to rows more on room broken =
     breaks_at reading issued value (begin reading issued value from to rows (omega arith)) more (omega arith) room broken
 
 -- a walk that went on to group `end` is a walk there
-walked_on : (list : List ℕ) (first group end room limit : ℕ) → group < end → room ≡ limit → {v : Covering} {found is : Walk}
-    → walk_to list first group limit ≡ Covered v
-    → ((start before : ℕ) → walk_to list start before room ≡ Covered v → found ≡ walk_to list start (before + (end - group)) room)
+walked_on : (list : List ℕ) (first group end room limit : ℕ) → group < end → room ≡ limit → {v : Covering} {found is : Option Covering}
+    → walk_to list first group limit ≡ Some v
+    → ((start before : ℕ) → walk_to list start before room ≡ Some v → found ≡ walk_to list start (before + (end - group)) room)
     → found ≡ is → walk_to list first end limit ≡ is
 walked_on list first group end room limit more same here on is =
     let there : group + (end - group) ≡ end = omega arith in
@@ -54,35 +53,35 @@ module _ {sizes : Sizes} {list update : List ℕ} {first issued value from to gr
   goes holds = next-groups _ _ _ loop.0 end ahead.0 ahead.1 next told holds marked
 
   -- but the next group is not read
-  breaks : told ≡ true → (end ≡ to → ⊥) → to ≤ groups_for issued → issued ≤ length rows₀ → in_lists sizes list update first end ≡ Broken
+  breaks : told ≡ true → (end ≡ to → ⊥) → to ≤ groups_for issued → issued ≤ length rows₀ → in_lists sizes list update first end ≡ None
       → Spanned (in_lists sizes list update first) issued value from to rows₀ next false
   breaks holds other few room broken =
       let done = goes holds in breaks_at _ _ _ done (omega arith) (omega arith) (omega (arith, keeps_length _ _ _ done)) broken
 
 pub returns-in_default : goal.returns-in_default
 returns-in_default c =
-    none_read _ _ _ _ _ _ c.requires.1 c.requires.2 c.requires.3 (value_broken c.args.sizes _ _ _ _ (sym c.walk_to.ensures ∙ c.in_default.is))
+    none_read _ _ _ _ _ _ c.requires.0 c.requires.1 c.requires.2 (value_broken c.args.sizes _ _ _ _ (rw (spacing_read c.sizes.view_is) at (sym c.walk_to.ensures ∙ c.in_default.is)))
 
 pub returns-in_default-walk_to : goal.returns-in_default-walk_to
 returns-in_default-walk_to c =
-    none_read _ _ _ _ _ _ c.requires.1 c.requires.2 c.requires.3
-    (update_broken c.args.sizes _ _ _ _ _ (sym c.walk_to.ensures ∙ c.in-Covered.is)
-    (rw c.requires.0.update_room_is at (sym c.walk_to-2.ensures ∙ c.in_default-walk_to.is)))
+    none_read _ _ _ _ _ _ c.requires.0 c.requires.1 c.requires.2
+    (update_broken c.args.sizes _ _ _ _ _ (rw (spacing_read c.sizes.view_is) at (sym c.walk_to.ensures ∙ c.in-Some.is))
+    (rw (update_room_read c.sizes.view_is c.sizes.invariant) at (sym c.walk_to-2.ensures ∙ c.in_default-walk_to.is)))
 
-pub loop-sizes-init : goal.loop-sizes-init
-loop-sizes-init c = (
+pub loop-span-init : goal.loop-span-init
+loop-span-init c = (
   begin _ _ _ _ _ _ (omega arith),
   record {
-    more = c.requires.1;
-    value_found = sym c.walk_to.ensures ∙ c.in-Covered.is;
-    update_found = rw c.requires.0.update_room_is at (sym c.walk_to-2.ensures ∙ c.in-Covered-walk_to.is);
+    more = c.requires.0;
+    value_found = rw (spacing_read c.sizes.view_is) at (sym c.walk_to.ensures ∙ c.in-Some.is);
+    update_found = rw (update_room_read c.sizes.view_is c.sizes.invariant) at (sym c.walk_to-2.ensures ∙ c.in-Some-walk_to.is);
   },
 )
 
 pub mark_groups-requires : goal.mark_groups-requires
 mark_groups-requires c =
-    let same = keeps_length _ _ _ c.loop-sizes.invariant.0 in (
-      rw (c.group_in.ensures, c.group_in-in-loop-sizes.ensures) (bits_small c.loop-sizes.v c.loop-sizes.u),
+    let same = keeps_length _ _ _ c.loop-span.invariant.0 in (
+      rw (c.group_in.ensures, c.group_in-in-loop-span.ensures) (bits_small c.loop-span.v c.loop-span.u),
       omega arith,
       c.alike_up_to-end.ensures.4,
       omega arith,
@@ -91,41 +90,41 @@ mark_groups-requires c =
 
 pub returns-then-not-mark_groups : goal.returns-then-not-mark_groups
 returns-then-not-mark_groups c =
-    stops c.loop-sizes.invariant c.group_in.ensures c.group_in-in-loop-sizes.ensures c.alike_up_to-end.ensures c.mark_groups.ensures
+    stops c.loop-span.invariant c.group_in.ensures c.group_in-in-loop-span.ensures c.alike_up_to-end.ensures c.mark_groups.ensures
     c.if-not-mark_groups.true
 
 pub returns-then-end-span : goal.returns-then-end-span
 returns-then-end-span c =
-    let done = goes c.loop-sizes.invariant c.group_in.ensures c.group_in-in-loop-sizes.ensures c.alike_up_to-end.ensures c.mark_groups.ensures
+    let done = goes c.loop-span.invariant c.group_in.ensures c.group_in-in-loop-span.ensures c.alike_up_to-end.ensures c.mark_groups.ensures
     c.if-not-mark_groups.false in
     ends _ _ _ done (omega arith)
 
 pub returns-in_default-walk_on : goal.returns-in_default-walk_on
 returns-in_default-walk_on c =
-    breaks c.loop-sizes.invariant c.group_in.ensures c.group_in-in-loop-sizes.ensures c.alike_up_to-end.ensures c.mark_groups.ensures
-    c.if-not-mark_groups.false c.if-end-span.false c.requires.2 c.requires.3
+    breaks c.loop-span.invariant c.group_in.ensures c.group_in-in-loop-span.ensures c.alike_up_to-end.ensures c.mark_groups.ensures
+    c.if-not-mark_groups.false c.if-end-span.false c.requires.1 c.requires.2
     (value_broken c.args.sizes _ _ _ _
-    (walked_on _ _ _ _ _ _ c.alike_up_to-end.ensures.0 refl c.loop-sizes.invariant.1.value_found c.walk_on.ensures c.in_default-walk_on.is))
+    (walked_on _ _ _ _ _ _ c.alike_up_to-end.ensures.0 (spacing_read c.sizes.view_is) c.loop-span.invariant.1.value_found c.walk_on.ensures c.in_default-walk_on.is))
 
 pub returns-in_default-walk_on-2 : goal.returns-in_default-walk_on-2
 returns-in_default-walk_on-2 c =
     let more = c.alike_up_to-end.ensures.0 in
-    let reached = c.loop-sizes.invariant.1 in
-    breaks c.loop-sizes.invariant c.group_in.ensures c.group_in-in-loop-sizes.ensures c.alike_up_to-end.ensures c.mark_groups.ensures
-    c.if-not-mark_groups.false c.if-end-span.false c.requires.2 c.requires.3
-    (update_broken c.args.sizes _ _ _ _ _ (walked_on _ _ _ _ _ _ more refl reached.value_found c.walk_on.ensures c.in-Covered-walk_on.is)
-    (walked_on _ _ _ _ _ _ more c.requires.0.update_room_is reached.update_found c.walk_on-in-loop-sizes.ensures c.in_default-walk_on-2.is))
+    let reached = c.loop-span.invariant.1 in
+    breaks c.loop-span.invariant c.group_in.ensures c.group_in-in-loop-span.ensures c.alike_up_to-end.ensures c.mark_groups.ensures
+    c.if-not-mark_groups.false c.if-end-span.false c.requires.1 c.requires.2
+    (update_broken c.args.sizes _ _ _ _ _ (walked_on _ _ _ _ _ _ more (spacing_read c.sizes.view_is) reached.value_found c.walk_on.ensures c.in-Some-walk_on.is)
+    (walked_on _ _ _ _ _ _ more (update_room_read c.sizes.view_is c.sizes.invariant) reached.update_found c.walk_on-in-loop-span.ensures c.in_default-walk_on-2.is))
 
-pub loop-sizes-preserved : goal.loop-sizes-preserved
-loop-sizes-preserved c =
+pub loop-span-preserved : goal.loop-span-preserved
+loop-span-preserved c =
     let more = c.alike_up_to-end.ensures.0 in
-    let reached = c.loop-sizes.invariant.1 in (
-      goes c.loop-sizes.invariant c.group_in.ensures c.group_in-in-loop-sizes.ensures c.alike_up_to-end.ensures c.mark_groups.ensures
+    let reached = c.loop-span.invariant.1 in (
+      goes c.loop-span.invariant c.group_in.ensures c.group_in-in-loop-span.ensures c.alike_up_to-end.ensures c.mark_groups.ensures
           c.if-not-mark_groups.false,
       record {
         more = omega arith;
-        value_found = walked_on _ _ _ _ _ _ more refl reached.value_found c.walk_on.ensures c.in-Covered-walk_on.is;
-        update_found = walked_on _ _ _ _ _ _ more c.requires.0.update_room_is reached.update_found c.walk_on-in-loop-sizes.ensures
-            c.in-Covered-walk_on-2.is;
+        value_found = walked_on _ _ _ _ _ _ more (spacing_read c.sizes.view_is) reached.value_found c.walk_on.ensures c.in-Some-walk_on.is;
+        update_found = walked_on _ _ _ _ _ _ more (update_room_read c.sizes.view_is c.sizes.invariant) reached.update_found c.walk_on-in-loop-span.ensures
+            c.in-Some-walk_on-2.is;
       },
     )

@@ -6,10 +6,10 @@ use Rattle.dump_spans.proofs.span.Spanning.{Spanning}
 use Rattle.dump_spans.proofs.span.Reaching.{Reached}
 use Rattle.dump_spans.proofs.span.mark_lists.Given as goal
 
-abbrev pub invariant-loop-sizes : goal.invariant-loop-sizes
-invariant-loop-sizes l =
-    Spanning (in_lists l.sizes l.list l.update l.first) l.span.issued l.span.value l.span.from l.span.to l.initial.rows l.rows l.group
-    × Reached l.sizes l.list l.update l.first l.span.to l.group l.v l.u
+abbrev pub invariant-loop-span : goal.invariant-loop-span
+invariant-loop-span l =
+    Spanning (in_lists l.fn.sizes l.list l.update l.first) l.span.issued l.span.value l.span.from l.span.to l.initial.rows l.rows l.group
+    × Reached l.fn.sizes l.list l.update l.first l.span.to l.group l.v l.u
 
-abbrev pub decreases-loop-sizes : goal.decreases-loop-sizes
-decreases-loop-sizes l = l.span.to - l.group
+abbrev pub decreases-loop-span : goal.decreases-loop-span
+decreases-loop-span l = l.span.to - l.group

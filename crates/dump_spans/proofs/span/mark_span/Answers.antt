@@ -9,6 +9,7 @@ use Rattle.blocks.specs.Sizes.{value_room, block_size}
 use Rattle.blocks.specs.Block.{value_length, value_list}
 use Rattle.blocks.specs.declared.sizes.Sizes.{Sizes}
 use Rattle.blocks.proofs.Blocks.{length-value_list}
+use Rattle.blocks.proofs.Opened.{room_read, update_room_read}
 use Rattle.dump_spans.proofs.span.InBlock.{none_told, long_told, misplaced_told, updates_told, lists_told}
 use Rattle.dump_spans.proofs.span.mark_span.Goals as goal
 
@@ -22,26 +23,26 @@ returns-then-span c = none_told c.args.sizes c.args.fence c.args.block.now c.arg
 
 pub returns-then-sizes-length : goal.returns-then-sizes-length
 returns-then-sizes-length c =
-    long_told c.args.sizes c.args.fence c.args.block.now c.args.span c.args.rows.now (omega arith) c.requires.3 c.requires.4 (omega arith)
+    long_told c.args.sizes c.args.fence c.args.block.now c.args.span c.args.rows.now (omega (arith, room_read c.sizes.view_is, update_room_read c.sizes.view_is c.sizes.invariant)) c.requires.2 c.requires.3 (omega (arith, room_read c.sizes.view_is, update_room_read c.sizes.view_is c.sizes.invariant))
 
 pub returns-then-length-place : goal.returns-then-length-place
 returns-then-length-place c =
-    misplaced_told c.args.sizes c.args.fence c.args.block.now c.args.span c.args.rows.now (omega arith) c.requires.3 c.requires.4 (omega arith)
-    (omega arith)
+    misplaced_told c.args.sizes c.args.fence c.args.block.now c.args.span c.args.rows.now (omega (arith, room_read c.sizes.view_is, update_room_read c.sizes.view_is c.sizes.invariant)) c.requires.2 c.requires.3 (omega (arith, room_read c.sizes.view_is, update_room_read c.sizes.view_is c.sizes.invariant))
+    (omega (arith, room_read c.sizes.view_is, update_room_read c.sizes.view_is c.sizes.invariant))
 
 pub returns-then-sizes-update_length : goal.returns-then-sizes-update_length
 returns-then-sizes-update_length c =
-    updates_told c.args.sizes c.args.fence c.args.block.now c.args.span c.args.rows.now (omega arith) c.requires.3 c.requires.4 (omega arith)
+    updates_told c.args.sizes c.args.fence c.args.block.now c.args.span c.args.rows.now (omega (arith, room_read c.sizes.view_is, update_room_read c.sizes.view_is c.sizes.invariant)) c.requires.2 c.requires.3 (omega (arith, room_read c.sizes.view_is, update_room_read c.sizes.view_is c.sizes.invariant))
 
 pub slice_bounds-mark_lists-count : goal.slice_bounds-mark_lists-count
 slice_bounds-mark_lists-count c =
-    omega (arith, within c.args.sizes c.args.block.now _ c.args.fence.place c.requires.1 c.value_list-list.ensures (omega arith) (omega arith))
+    omega (arith, within c.args.sizes c.args.block.now _ c.args.fence.place c.requires.0 c.value_list-list.ensures (omega (arith, room_read c.sizes.view_is, update_room_read c.sizes.view_is c.sizes.invariant)) (omega (arith, room_read c.sizes.view_is, update_room_read c.sizes.view_is c.sizes.invariant)))
 
 pub slice_bounds-mark_lists-start : goal.slice_bounds-mark_lists-start
 slice_bounds-mark_lists-start c =
-    omega (arith, within c.args.sizes c.args.block.now _ c.args.fence.place c.requires.1 c.value_list-list.ensures (omega arith) (omega arith))
+    omega (arith, within c.args.sizes c.args.block.now _ c.args.fence.place c.requires.0 c.value_list-list.ensures (omega (arith, room_read c.sizes.view_is, update_room_read c.sizes.view_is c.sizes.invariant)) (omega (arith, room_read c.sizes.view_is, update_room_read c.sizes.view_is c.sizes.invariant)))
 
 pub returns : goal.returns
 returns c =
-    lists_told c.args.sizes c.args.fence c.args.block.now c.args.span c.args.rows.now (omega arith) (omega arith) (omega arith) _ _
+    lists_told c.args.sizes c.args.fence c.args.block.now c.args.span c.args.rows.now (omega (arith, room_read c.sizes.view_is, update_room_read c.sizes.view_is c.sizes.invariant)) (omega (arith, room_read c.sizes.view_is, update_room_read c.sizes.view_is c.sizes.invariant)) (omega (arith, room_read c.sizes.view_is, update_room_read c.sizes.view_is c.sizes.invariant)) _ _
     c.value_list-list.ensures c.update_list-update.ensures _ _ c.mark_lists.ensures

@@ -1,14 +1,8 @@
 -- `mark_value`: the first j fences are visited, and no row is damaged.
-use Rattle.std.proofs.Common.{◌≡◌, ◌≤◌, ◌-◌, length}
 use Rattle.memory.specs.Memory.{memory_of}
 use Rattle.fence_records.proofs.marking.Rounds.{FencesSeen}
 use Rattle.fence_records.proofs.marking.mark_value.Given as goal
 
 abbrev pub invariant-loop-j : goal.invariant-loop-j
 invariant-loop-j l =
-    (l.j ≤ l.count)
-    × (length l.rows ≡ length l.initial.rows)
-    × FencesSeen l.header (memory_of l.words l.fences) l.value l.initial.rows l.j l.rows
-
-abbrev pub decreases-loop-j : goal.decreases-loop-j
-decreases-loop-j l = l.count - l.j
+    FencesSeen l.header (memory_of l.words l.fences) l.value l.initial.rows l.j l.rows

@@ -1,14 +1,7 @@
 -- `mark_values`: the first values are visited, and no row is damaged.
-use Rattle.std.proofs.Common.{◌≡◌, ◌≤◌, ◌-◌, length}
 use Rattle.memory.specs.Memory.{memory_of}
 use Rattle.fence_records.proofs.marking.Rounds.{ValuesSeen}
 use Rattle.fence_records.proofs.marking.mark_values.Given as goal
 
 abbrev pub invariant-loop-value : goal.invariant-loop-value
-invariant-loop-value l =
-    (l.value ≤ l.header.values)
-    × (length l.rows ≡ length l.initial.rows)
-    × ValuesSeen l.header (memory_of l.words l.fences) l.initial.rows l.value l.rows
-
-abbrev pub decreases-loop-value : goal.decreases-loop-value
-decreases-loop-value l = l.header.values - l.value
+invariant-loop-value l = ValuesSeen l.header (memory_of l.words l.fences) l.initial.rows l.value l.rows

@@ -1,26 +1,15 @@
--- `decimal_in`: what is read so far and what is left spell what the field spells.
-use mathlib.Core.Path.{sym, ◌∙◌}
+-- `decimal_in`: a byte that is no digit, or one too many, ends the reading.
+use mathlib.Core.Path.{◌∙◌}
 use native.Mathlib.Omega.{arith}
-use Rattle.fields.proofs.Spelling.{no_digits, from_zero, all_read, read_none, read_more}
+use Rattle.fields.proofs.Spelling.{read_none}
 use Rattle.fields.proofs.numbers.decimal_in.Goals as goal
 
-pub returns-then-digits-eq0 : goal.returns-then-digits-eq0
-returns-then-digits-eq0 c = no_digits c.args.digits.now c.if-digits-eq0.true
+pub returns-in_err-digit_of : goal.returns-in_err-digit_of
+returns-in_err-digit_of c =
+    c.from_residual.ensures
+    ∙ read_none c.loop-byte.value c.args.digits.now c.loop-byte.byte-index (omega arith) c.loop-byte.invariant (grind arith)
 
-pub loop-i-init : goal.loop-i-init
-loop-i-init c = (omega arith, from_zero c.args.digits.now c.if-digits-eq0.false)
-
-pub returns-in_default : goal.returns-in_default
-returns-in_default c =
-    read_none c.loop-i.value c.args.digits.now c.loop-i.i (omega arith) c.loop-i.invariant.1 c.digit_of-digit.result c.digit_of-digit.ensures c.with_digit.result c.with_digit.ensures c.in_default.is
-
-pub loop-i-preserved : goal.loop-i-preserved
-loop-i-preserved c = (
-  omega arith,
-  read_more c.loop-i.value c.args.digits.now c.loop-i.i (omega arith) c.loop-i.invariant.1 c.digit_of-digit.result c.digit_of-digit.ensures c.with_digit.result c.with_digit.ensures c.in-Is.next c.in-Is.is,
-)
-
-pub returns : goal.returns
-returns c =
-    let loop = c.loop-i in
-    sym (all_read loop.value c.args.digits.now loop.i c.loop-i-test.false) ∙ loop.invariant.1
+pub returns-in_err-value : goal.returns-in_err-value
+returns-in_err-value c =
+    c.from_residual-in_err-value.ensures
+    ∙ read_none c.loop-byte.value c.args.digits.now c.loop-byte.byte-index (omega arith) c.loop-byte.invariant (grind arith)

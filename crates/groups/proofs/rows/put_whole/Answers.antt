@@ -13,5 +13,6 @@ returns c =
       c.eight_bits-2.ensures,
       c.put_eight.ensures,
       c.eight_bits.ensures,
+      c.from-bits.ensures,
     )
     (put_eights c.args.group c.args.out.now c.requires)

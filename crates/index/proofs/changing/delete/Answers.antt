@@ -5,18 +5,18 @@ use Rattle.index.proofs.changing.delete.Goals as goal
 pub flip_fenced-requires : goal.flip_fenced-requires
 flip_fenced-requires c =
     let a = c.args in
-    let flips = c.in-Flips in
-    delete_asks a.words.now a.fences.now a.header a.row flips.sizes flips.from flips.merges flips.ensures
+    let flips = c.in-Ok in
+    delete_asks a.words.now a.fences.now a.header a.row flips.flip flips.ensures
 
-pub returns-in-Kept : goal.returns-in-Kept
-returns-in-Kept c =
+pub returns-in-Err : goal.returns-in-Err
+returns-in-Err c =
     let a = c.args in
-    delete_kept a.words.now a.fences.now a.header a.row c.in-Kept.refusal c.in-Kept.ensures c.refuse.result c.refuse.ensures
+    delete_kept a.words.now a.fences.now a.header a.row c.in-Err.refusal c.in-Err.ensures c.refuse.result c.refuse.ensures
 
-pub returns-in-Flips : goal.returns-in-Flips
-returns-in-Flips c =
+pub returns-in-Ok : goal.returns-in-Ok
+returns-in-Ok c =
     let a = c.args in
-    let flips = c.in-Flips in
+    let flips = c.in-Ok in
     let flipped = c.flip_fenced in
-    delete_done a.words.now a.fences.now a.header a.row flips.sizes flips.from flips.merges flips.ensures
+    delete_done a.words.now a.fences.now a.header a.row flips.flip flips.ensures
     flipped.new.words flipped.new.fences flipped.ensures c.done.result c.done.ensures

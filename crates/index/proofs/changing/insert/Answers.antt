@@ -5,24 +5,24 @@ use Rattle.index.proofs.changing.insert.Goals as goal
 pub flip_fenced-requires : goal.flip_fenced-requires
 flip_fenced-requires c =
     let a = c.args in
-    let flips = c.in-Flips in
-    insert_asks a.words.now a.fences.now a.header a.value flips.sizes flips.into flips.merges flips.ensures
+    let flips = c.in-Ok in
+    insert_asks a.words.now a.fences.now a.header a.value flips.flip flips.ensures
 
 pub grow-requires : goal.grow-requires
 grow-requires c =
     let a = c.args in
-    let flips = c.in-Flips in
-    spare_row a.words.now a.fences.now a.header a.value flips.sizes flips.into flips.merges flips.ensures
+    let flips = c.in-Ok in
+    spare_row a.words.now a.fences.now a.header a.value flips.flip flips.ensures
 
-pub returns-in-Kept : goal.returns-in-Kept
-returns-in-Kept c =
+pub returns-in-Err : goal.returns-in-Err
+returns-in-Err c =
     let a = c.args in
-    insert_kept a.words.now a.fences.now a.header a.value c.in-Kept.refusal c.in-Kept.ensures c.refuse.result c.refuse.ensures
+    insert_kept a.words.now a.fences.now a.header a.value c.in-Err.refusal c.in-Err.ensures c.refuse.result c.refuse.ensures
 
-pub returns-in-Flips : goal.returns-in-Flips
-returns-in-Flips c =
+pub returns-in-Ok : goal.returns-in-Ok
+returns-in-Ok c =
     let a = c.args in
-    let flips = c.in-Flips in
+    let flips = c.in-Ok in
     let flipped = c.flip_fenced in
-    insert_done a.words.now a.fences.now a.header a.value flips.sizes flips.into flips.merges flips.ensures
+    insert_done a.words.now a.fences.now a.header a.value flips.flip flips.ensures
     flipped.new.words flipped.new.fences flipped.ensures c.grow.result c.grow.ensures

@@ -6,16 +6,16 @@ use Rattle.index.proofs.changing.merge.Goals as goal
 pub merge_fenced-requires : goal.merge_fenced-requires
 merge_fenced-requires c =
     let a = c.args in
-    whole_asks a.words.now a.fences.now a.header a.value c.in-Ready.sizes c.in-Ready.ensures
+    whole_asks a.words.now a.fences.now a.header a.value c.in-Ok.sizes c.in-Ok.ensures
 
-pub returns-in-Stop : goal.returns-in-Stop
-returns-in-Stop c =
+pub returns-in-Err : goal.returns-in-Err
+returns-in-Err c =
     let a = c.args in
-    merge_stops a.words.now a.fences.now a.header a.value c.in-Stop.refusal c.in-Stop.ensures c.refuse.result c.refuse.ensures
+    merge_stops a.words.now a.fences.now a.header a.value c.in-Err.refusal c.in-Err.ensures c.refuse.result c.refuse.ensures
 
-pub returns-in-Ready : goal.returns-in-Ready
-returns-in-Ready c =
+pub returns-in-Ok : goal.returns-in-Ok
+returns-in-Ok c =
     let a = c.args in
     let merged = c.merge_fenced in
-    merge_done a.words.now a.fences.now a.header a.value c.in-Ready.sizes c.in-Ready.ensures
+    merge_done a.words.now a.fences.now a.header a.value c.in-Ok.sizes c.in-Ok.ensures
     merged.new.words merged.new.fences merged.ensures c.done.result c.done.ensures

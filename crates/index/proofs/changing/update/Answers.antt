@@ -5,33 +5,33 @@ use Rattle.index.proofs.changing.update.Goals as goal
 pub flip_fenced-requires : goal.flip_fenced-requires
 flip_fenced-requires c =
     let a = c.args in
-    let moves = c.in-Moves in
-    old_asks a.words.now a.fences.now a.header a.row a.value moves.sizes moves.old moves.first moves.second moves.ensures
+    let moves = c.in-Ok-Some in
+    old_asks a.words.now a.fences.now a.header a.row a.value moves.moving (rw moves.field-0-is at moves.ensures)
 
-pub flip_fenced-requires-in-Moves : goal.flip_fenced-requires-in-Moves
-flip_fenced-requires-in-Moves c =
+pub flip_fenced-requires-in-Ok-Some : goal.flip_fenced-requires-in-Ok-Some
+flip_fenced-requires-in-Ok-Some c =
     let a = c.args in
-    let moves = c.in-Moves in
+    let moves = c.in-Ok-Some in
     let once = c.flip_fenced in
-    second_asks a.words.now a.fences.now a.header a.row a.value moves.sizes moves.old moves.first moves.second moves.ensures
+    second_asks a.words.now a.fences.now a.header a.row a.value moves.moving (rw moves.field-0-is at moves.ensures)
     once.new.words once.new.fences once.auto.words once.auto.fences once.ensures
 
-pub returns-in-Left : goal.returns-in-Left
-returns-in-Left c =
+pub returns-in-Err : goal.returns-in-Err
+returns-in-Err c =
     let a = c.args in
-    update_kept a.words.now a.fences.now a.header a.row a.value c.in-Left.refusal c.in-Left.ensures c.refuse.result c.refuse.ensures
+    update_kept a.words.now a.fences.now a.header a.row a.value c.in-Err.refusal c.in-Err.ensures c.refuse.result c.refuse.ensures
 
-pub returns-in-Same : goal.returns-in-Same
-returns-in-Same c =
+pub returns-in-Ok-None : goal.returns-in-Ok-None
+returns-in-Ok-None c =
     let a = c.args in
-    update_same a.words.now a.fences.now a.header a.row a.value c.in-Same.ensures c.done.result c.done.ensures
+    update_same a.words.now a.fences.now a.header a.row a.value (rw c.in-Ok-None.field-0-is at c.in-Ok-None.ensures) c.done.result c.done.ensures
 
-pub returns-in-Moves : goal.returns-in-Moves
-returns-in-Moves c =
+pub returns-in-Ok-Some : goal.returns-in-Ok-Some
+returns-in-Ok-Some c =
     let a = c.args in
-    let moves = c.in-Moves in
+    let moves = c.in-Ok-Some in
     let once = c.flip_fenced in
-    let twice = c.flip_fenced-in-Moves in
-    update-done a.words.now a.fences.now a.header a.row a.value moves.sizes moves.old moves.first moves.second moves.ensures
+    let twice = c.flip_fenced-in-Ok-Some in
+    update-done a.words.now a.fences.now a.header a.row a.value moves.moving (rw moves.field-0-is at moves.ensures)
     once.new.words once.new.fences once.auto.words once.auto.fences once.ensures
-    twice.new.words twice.new.fences twice.ensures c.done-in-Moves.result c.done-in-Moves.ensures
+    twice.new.words twice.new.fences twice.ensures c.done-in-Ok-Some.result c.done-in-Ok-Some.ensures

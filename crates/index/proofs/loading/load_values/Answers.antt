@@ -7,7 +7,7 @@ pub load_blocks-requires : goal.load_blocks-requires
 load_blocks-requires c = load_asks c.args.words.now c.args.fences.now c.args.column.now c.requires.0 c.requires.1
 
 pub loop-value-init : goal.loop-value-init
-loop-value-init c = (omega arith, refl)
+loop-value-init c = refl
 
 pub renew-requires : goal.renew-requires
 renew-requires c =
@@ -19,11 +19,9 @@ renew-requires c =
 pub loop-value-preserved : goal.loop-value-preserved
 loop-value-preserved c =
     let a = c.args in
-    let blocks = c.load_blocks in (
-      omega arith,
-      renews a.words.now a.fences.now a.column.now c.requires.0 c.requires.1 blocks.new.words blocks.auto.words blocks.ensures
-          c.loop-value.value (omega arith) c.loop-value.fences c.loop-value.invariant.1 c.renew.new.fences c.renew.ensures,
-    )
+    let blocks = c.load_blocks in
+    renews a.words.now a.fences.now a.column.now c.requires.0 c.requires.1 blocks.new.words blocks.auto.words blocks.ensures
+    c.loop-value.value (omega arith) c.loop-value.fences c.loop-value.invariant c.renew.new.fences c.renew.ensures
 
 pub returns : goal.returns
 returns c =
@@ -31,6 +29,6 @@ returns c =
     let blocks = c.load_blocks in
     let all : c.loop-value.value ≡ a.header.values = omega arith in (
       words-done a.words.now a.fences.now a.column.now c.requires.0 c.requires.1 blocks.new.words blocks.auto.words blocks.ensures,
-      c.loop-value.invariant.1
+      c.loop-value.invariant
           ∙ ap (λ (v : ℕ). (loaded_to a.words.now a.fences.now a.column.now c.requires.0 c.requires.1 v).fences) all,
     )

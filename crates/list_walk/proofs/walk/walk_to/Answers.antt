@@ -1,46 +1,71 @@
--- `walk_to` meets its contract. The loop's invariant: the walk asked for is the one from place `opened` on, with `skip` groups to pass. Assumes nothing.
-use mathlib.Core.Path.{◌∙◌, sym}
+-- `walk_to` meets its contract. The loop's invariant: the walk asked for is the one from the word at hand on, with `skip` groups to pass. Assumes nothing.
+use mathlib.Core.Path.{◌≡◌, refl, ◌∙◌, sym}
+use mathlib.Core.List.{List}
+use Prim.Native.Nat.{ℕ, min, ◌+◌, ◌-◌, ◌<◌, ◌≤◌}
 use native.Mathlib.Omega.{arith}
-use Rattle.list_walk.proofs.walk.Steps.{starts_late, starts, stops, counts_none, covers, passes}
+use lib.ListN.{length, get_or, take}
+use lib.Seq.{length-take-le, get_or-take}
+use Rattle.std.specs.Prelude.{Some, None}
+use Rattle.words.specs.Words.{run_of, span}
+use Rattle.list_walk.proofs.walk.Steps.{walk_from, starts_late, starts, stops, counts_none, covers, passes}
 use Rattle.list_walk.proofs.walk.walk_to.Goals as goal
+
+module _ (list : List ℕ) (budget most : ℕ) (cut : most ≡ min budget (length list)) where
+  -- a word of those that the budget allows is opened: the word at place i, which covers so many groups
+  module _ (i opened skip wide : ℕ) (even : opened ≡ i) (h : i < length (take most list))
+      (covers_wide : wide ≡ span (run_of (get_or (take most list) i 0))) where
+    within : (i < length list) × (i < budget)
+    within = (omega (arith, length-take-le most list (omega arith)), omega (arith, length-take-le most list (omega arith)))
+
+    same : get_or (take most list) i 0 ≡ get_or list i 0
+    same = get_or-take most list i 0 (omega (arith, length-take-le most list (omega arith)))
+
+    wide_here : wide ≡ span (run_of (get_or list i 0))
+    wide_here = rw same at covers_wide
+
+    no_groups : wide ≡ 0 → walk_from list budget opened skip ≡ None
+    no_groups none = rw even (counts_none list budget i skip within.0 within.1 (sym wide_here ∙ none))
+
+    near : skip < wide
+        → walk_from list budget opened skip ≡ Some (record { word = get_or (take most list) i 0; beyond = wide - 1 - skip; opened = opened + 1 })
+    near h = rw (even, same, wide_here) (covers list budget i skip within.0 within.1 (rw wide_here at h))
+
+    far : (wide ≡ 0 → ⊥) → wide ≤ skip → walk_from list budget opened skip ≡ walk_from list budget (opened + 1) (skip - wide)
+    far some h = rw (even, wide_here) (passes list budget i skip within.0 within.1 (rw wide_here at some) (rw wide_here at h))
+
+  no_more : (i opened skip : ℕ) → opened ≡ i → length (take most list) ≤ i → walk_from list budget opened skip ≡ None
+  no_more i opened skip even h = stops list budget opened skip (omega (arith, length-take-le most list (omega arith)))
 
 pub returns-then-group-first : goal.returns-then-group-first
 returns-then-group-first c =
     let args = c.args in
     sym (starts_late args.list.now args.first args.group args.budget c.if-group-first.true)
 
-pub loop-opened-init : goal.loop-opened-init
-loop-opened-init c =
+pub loop-word-init : goal.loop-word-init
+loop-word-init c =
     let args = c.args in
-    (c.smaller-most.ensures, starts args.list.now args.first args.group args.budget c.if-group-first.false)
+    (refl, starts args.list.now args.first args.group args.budget c.if-group-first.false)
 
 pub returns-then-span-eq0 : goal.returns-then-span-eq0
 returns-then-span-eq0 c =
-    let args = c.args in
-    let loop = c.loop-opened in
-    let none = sym c.span_of-span.ensures ∙ c.if-span-eq0.true in
-    sym (loop.invariant.1 ∙ counts_none args.list.now args.budget loop.opened loop.skip (omega arith) (omega arith) none)
+    let at = c.loop-word in
+    sym (at.invariant.1 ∙ no_groups c.args.list.now _ _ c.min-most.ensures _ _ at.skip _ at.invariant.0 c.loop-word-test.true c.span_of-span.ensures c.if-span-eq0.true)
 
 pub returns-then-skip-span : goal.returns-then-skip-span
 returns-then-skip-span c =
-    let args = c.args in
-    let loop = c.loop-opened in
-    let wide = c.span_of-span.ensures in
-    let near = rw wide at c.if-skip-span.true in
-    rw wide (sym (loop.invariant.1 ∙ covers args.list.now args.budget loop.opened loop.skip (omega arith) (omega arith) near))
+    let at = c.loop-word in
+    sym (at.invariant.1 ∙ near c.args.list.now _ _ c.min-most.ensures _ _ at.skip _ at.invariant.0 c.loop-word-test.true c.span_of-span.ensures c.if-skip-span.true)
 
-pub loop-opened-preserved : goal.loop-opened-preserved
-loop-opened-preserved c =
-    let args = c.args in
-    let loop = c.loop-opened in
-    let wide = c.span_of-span.ensures in
-    let some = rw wide at c.if-span-eq0.false in
-    let far = rw wide at c.if-skip-span.false in
-    let next = passes args.list.now args.budget loop.opened loop.skip (omega arith) (omega arith) some far in
-    (loop.invariant.0, rw wide (loop.invariant.1 ∙ next))
+pub loop-word-preserved : goal.loop-word-preserved
+loop-word-preserved c =
+    let at = c.loop-word in (
+      omega arith,
+      at.invariant.1
+          ∙ far c.args.list.now _ _ c.min-most.ensures _ _ at.skip _ at.invariant.0 c.loop-word-test.true c.span_of-span.ensures
+          c.if-span-eq0.false c.if-skip-span.false,
+    )
 
 pub returns : goal.returns
 returns c =
-    let args = c.args in
-    let loop = c.loop-opened in
-    sym (loop.invariant.1 ∙ stops args.list.now args.budget loop.opened loop.skip (omega (arith, loop.invariant.0)))
+    let at = c.loop-word in
+    sym (at.invariant.1 ∙ no_more c.args.list.now _ _ c.min-most.ensures _ _ at.skip at.invariant.0 c.loop-word-test.false)

@@ -3,11 +3,11 @@ use native.Mathlib.Omega.{arith}
 use Rattle.lists.proofs.loose.Loops.{begins, unread, replaces, turned-length, turned_at}
 use Rattle.lists.proofs.loose.turn_over_each.Goals as goal
 
-pub loop-i-init : goal.loop-i-init
-loop-i-init c = begins c.args.groups.now _ (turned-length c.args.groups.now c.args.group)
+pub loop-turned-init : goal.loop-turned-init
+loop-turned-init c = begins c.args.groups.now _ (turned-length c.args.groups.now c.args.group)
 
-pub loop-i-preserved : goal.loop-i-preserved
-loop-i-preserved c =
-    let k = c.loop-i.invariant in
+pub loop-turned-preserved : goal.loop-turned-preserved
+loop-turned-preserved c =
+    let k = c.loop-turned.invariant in
     replaces k (omega arith) _
-    (rw (unread k (omega arith)) (turned_at c.args.groups.now c.args.group c.requires.0 c.requires.1 c.loop-i.i (omega arith)))
+    (rw (unread k (omega arith)) (turned_at c.args.groups.now c.args.group c.requires.0 c.requires.1 c.loop-turned.turned-index (omega arith)))

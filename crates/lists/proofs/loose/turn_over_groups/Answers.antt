@@ -1,15 +1,13 @@
--- `turn_over_groups` meets its contract. The loop's invariant is `Turning`: the groups of the words read are turned over. The measure is how many
--- words are left.
-use native.Mathlib.Omega.{arith}
+-- `turn_over_groups` meets its contract. The loop's invariant is `Turning`: the groups of the words read are turned over.
 use Rattle.lists.proofs.loose.Turning.{now_small, word_fits, next_word}
 use Rattle.lists.proofs.loose.turn_over_groups.Goals as goal
 
 pub turn_over_word-at-requires : goal.turn_over_word-at-requires
 turn_over_word-at-requires c =
-    let k = c.loop-i.invariant in
-    (now_small k c.requires.1 c.requires.0, word_fits k c.requires.1 (omega arith))
+    let k = c.loop-word.invariant in
+    (now_small k c.requires.1 c.requires.0, word_fits k c.requires.1 c.loop-word-test.true)
 
-pub loop-i-preserved : goal.loop-i-preserved
-loop-i-preserved c =
+pub loop-word-preserved : goal.loop-word-preserved
+loop-word-preserved c =
     let word = c.turn_over_word-at in
-    rw word.ensures.0 (next_word c.loop-i.invariant c.requires.1 (omega arith) word.new.groups word.ensures.1)
+    rw word.ensures.0 (next_word c.loop-word.invariant c.requires.1 c.loop-word-test.true word.new.groups word.ensures.1)

@@ -1,14 +1,10 @@
 -- `one_byte` meets its contract: the length first, then two windows of rows. Assumes nothing.
-use Rattle.std.proofs.Common.{◌≡◌, true, length, get_or, take, drop, sym, refl, ◌∙◌, eq-eqb}
-use Rattle.load_list.specs.Inner.{all_alike}
-use Rattle.load_column.proofs.spread.Alike.{two_windows}
+use Rattle.std.proofs.Common.{refl, ◌∙◌}
+use Rattle.load_column.proofs.spread.Alike.{windows_alike}
 use Rattle.load_column.proofs.spread.one_byte.Goals as goal
 
-pub returns : goal.returns
-returns c =
-    let rows = c.args.rows.now in
-    let long = c.if-rows-ne31.false in
-    let front : all_alike (get_or rows 0 0) (take 16 (drop 1 rows)) ≡ true =
-    sym c.sixteen_alike.ensures ∙ c.if-not-sixteen_alike.false
-    in
-    c.sixteen_alike-2.ensures ∙ rw (eq-eqb (length rows) 31 long, two_windows rows long, front) refl
+pub returns-then-all_alike : goal.returns-then-all_alike
+returns-then-all_alike c = windows_alike c.args.rows.now c.if-rows-ne31.false c.if-all_alike.ensures c.all_alike-then-all_alike.ensures
+
+pub returns-else-all_alike : goal.returns-else-all_alike
+returns-else-all_alike c = c.if-all_alike.false ∙ windows_alike c.args.rows.now c.if-rows-ne31.false c.if-all_alike.ensures refl

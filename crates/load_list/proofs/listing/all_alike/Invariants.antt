@@ -1,14 +1,8 @@
--- `all_alike` meets its contract: the groups are alike where no bit differs so far and the groups still to come are alike. Assumes nothing.
+-- `all_alike` meets its contract: the numbers so far are alike or not. Assumes nothing.
 use mathlib.Core.Path.{◌≡◌}
-use mathlib.Core.Bool.{◌&&◌}
-use Prim.Native.Nat.{◌-◌, ◌≤◌}
-use lib.Dec.{eqb}
-use lib.ListN.{drop}
-use Rattle.load_list.specs.Inner.{all_alike}
+use lib.ListN.{take}
+use Rattle.std.specs.List.{list_all}
 use Rattle.load_list.proofs.listing.all_alike.Given as goal
 
-abbrev pub invariant-loop-i : goal.invariant-loop-i
-invariant-loop-i l = (l.i ≤ 8) × (all_alike l.group l.groups ≡ (eqb l.difference 0 && all_alike l.group (drop l.i l.groups)))
-
-abbrev pub decreases-loop-i : goal.decreases-loop-i
-decreases-loop-i l = 8 - l.i
+abbrev pub invariant-loop-each : goal.invariant-loop-each
+invariant-loop-each g l = l.alike ≡ list_all (λ each. g.T.PartialEq.eq each l.number) (take l.each-index l.numbers)

@@ -1,66 +1,76 @@
 -- `list_into` takes in eight groups at a time, those left one by one, and by a last step those behind. Assumes nothing.
-use mathlib.Core.Path.{◌≡◌}
+use mathlib.Core.Path.{◌≡◌, ◌∙◌}
 use mathlib.Core.List.{List}
-use Prim.Native.Nat.{ℕ, ◌+◌, ◌-◌, ◌≤◌}
+use Prim.Native.Nat.{ℕ, ◌+◌, ◌-◌, ◌*◌, ◌/◌, ◌≤◌}
 use native.Mathlib.Omega.{arith}
-use lib.ListN.{length, get_or, take, drop, length-take, length-drop, length-replicate}
-use lib.Seq.{take-length}
-use Rattle.load_list.specs.Inner.{Fits, Follows}
-use Rattle.load_list.specs.declared.listing.Listed.{Listed}
-use Rattle.load_list.proofs.listing.Loop.{follows_none, part-fits, part_follows, none, groups_fit, zeros_fit, last_fits, ends}
+use lib.ListN.{length, get_or, take, drop, take-append-drop}
+use Rattle.std.proofs.Common.{rules}
+use Rattle.words.specs.Inner.{no_run, Fits, Follows}
+use Rattle.words.specs.declared.writer.ListWriter.{ListWriter}
+use Rattle.load_list.proofs.listing.Loop.{fits_on, follows_on, clear_on, part-fits, part_follows, nth_part, groups_fit, clear_none, zeros_fit, all_close, all_ends}
 use Rattle.load_list.proofs.listing.list_into.Goals as goal
 
 module _ (total : ℕ) (groups out₀ : List ℕ)
-    (r : (length groups ≤ total) × (total ≤ 4096) × (total ≤ length out₀) × ((place : ℕ) → get_or out₀ place 0 ≡ 0)) where
+    (r : (length groups ≤ total) × (total ≤ 4096) × (total ≤ length out₀) × ((place : ℕ) → get_or out₀ place 0 ≡ 0))
+    (none : ListWriter) (b : (none.out.now ≡ out₀) × (none.written ≡ 0) × (none.pending ≡ no_run)) where
   -- the words of all groups have room
-  fits : Fits none groups 0 out₀
-  fits = groups_fit total groups out₀ r.0 r.1 r.2 r.3
+  fits : Fits groups none
+  fits = groups_fit total groups out₀ r none b
 
-  -- and all groups are passed once those left are
-  passed : {i : ℕ} {listed further : Listed} {out left : List ℕ} → (i ≤ length groups) × Follows none (take i groups) 0 out₀ listed out
-      → Follows listed.pending (take (length groups - i) (drop i groups)) listed.written out further left
-      → Follows none groups 0 out₀ further left
-  passed {i} f g = rw (take-length groups) at (part_follows fits i f.1 (length groups) f.0 g)
+  module _ (i : ℕ) {list : ListWriter} (f : Follows (take (i * 8) groups) none list) where
+    -- one part more is passed
+    part_passed : {further : ListWriter} → Follows (take 8 (drop (i * 8) groups)) list further → Follows (take ((i + 1) * 8) groups) none further
+    part_passed g =
+        let eight : (i + 1) * 8 - i * 8 ≡ 8 = omega arith in
+        part_follows fits (i * 8) f ((i + 1) * 8) (omega arith) (rw eight g)
 
-pub loop-i-init : goal.loop-i-init
-loop-i-init c = (omega arith, follows_none none 0 c.args.out.now (omega arith))
+    -- the groups behind the last part fit, and all are passed with them
+    module _ {rest : List ℕ} (back : rest ≡ drop (length groups / 8 * 8) groups) (last : length groups / 8 ≡ i) where
+      rest-fits : Fits rest list
+      rest-fits = rw (back, last) (fits_on f (drop (i * 8) groups) (rw take-append-drop fits))
 
-pub put_part-listed-requires : goal.put_part-listed-requires
-put_part-listed-requires c =
-    let i = c.loop-i.i in
-    let groups = c.args.groups.now in (
-      part-fits (fits _ groups _ c.requires) i c.loop-i.invariant.1 (i + 8 - i),
-      omega (arith, length-take (i + 8 - i) (drop i groups), length-drop i groups),
+      passed : {further : ListWriter} → Follows rest list further → Follows groups none further
+      passed g = rw take-append-drop at (follows_on f (rw (back, last) at g))
+
+pub put_part-requires : goal.put_part-requires
+put_part-requires c =
+    let l = c.loop-part in
+    let groups = c.args.groups.now in
+    let part = nth_part 8 (length groups / 8) groups l.part-index (omega arith) in (
+      rw (c.as_chunks.ensures.front, part) (part-fits (fits _ _ _ c.requires c.new-list.result c.new-list.ensures.begins) (l.part-index * 8) l.invariant.follows 8),
+      clear_on l.invariant.follows (clear_none _ _ _ c.requires c.new-list.result c.new-list.ensures.begins),
     )
 
-pub loop-i-preserved : goal.loop-i-preserved
-loop-i-preserved c =
-    let i = c.loop-i.i in
-    (omega arith, part_follows (fits _ c.args.groups.now _ c.requires) i c.loop-i.invariant.1 (i + 8) (omega arith) c.put_part-listed.ensures)
-
-pub put_each-listed-requires : goal.put_each-listed-requires
-put_each-listed-requires c =
+pub loop-part-preserved : goal.loop-part-preserved
+loop-part-preserved c =
+    let l = c.loop-part in
     let groups = c.args.groups.now in
-    part-fits (fits _ groups _ c.requires) c.loop-i.i c.loop-i.invariant.1 (length groups - c.loop-i.i)
+    let part = nth_part 8 (length groups / 8) groups l.part-index (omega arith) in
+    record {
+      follows = part_passed _ _ _ c.requires c.new-list.result c.new-list.ensures.begins l.part-index l.invariant.follows (rw (c.as_chunks.ensures.front, part) at c.put_part.ensures.follows);
+      same_reference = cc;
+    }
 
-pub store-written-requires : goal.store-written-requires
-store-written-requires c =
-    let all = passed c.args.total c.args.groups.now c.args.out.now c.requires c.loop-i.invariant c.put_each-listed.ensures in
-    let step = c.step_zeros-step.ensures in
-    (step.few, zeros_fit _ _ _ c.requires.0 c.requires.1 c.requires.2 c.requires.3 all step)
+pub put_each-requires : goal.put_each-requires
+put_each-requires c =
+    rest-fits _ _ _ c.requires c.new-list.result c.new-list.ensures.begins c.loop-part.part-index c.loop-part.invariant.follows c.as_chunks.ensures.back (omega arith)
+
+pub push_zeros-requires : goal.push_zeros-requires
+push_zeros-requires c =
+    let all = passed _ _ _ c.requires c.new-list.result c.new-list.ensures.begins c.loop-part.part-index c.loop-part.invariant.follows
+    c.as_chunks.ensures.back (omega arith) c.put_each.ensures.follows in
+    zeros_fit _ _ _ c.requires c.new-list.result c.new-list.ensures.begins all
 
 pub finish-requires : goal.finish-requires
 finish-requires c =
-    let all = passed c.args.total c.args.groups.now c.args.out.now c.requires c.loop-i.invariant c.put_each-listed.ensures in
-    let step = c.step_zeros-step.ensures in
-    let stored = c.store-written.ensures in (
-      step.is_bit,
-      omega (arith, all.grows, simp length-replicate at step.grows),
-      rw (stored.0, stored.1) (last_fits _ _ _ c.requires.0 c.requires.1 c.requires.2 c.requires.3 all step),
-    )
+    let all = passed _ _ _ c.requires c.new-list.result c.new-list.ensures.begins c.loop-part.part-index c.loop-part.invariant.follows
+    c.as_chunks.ensures.back (omega arith) c.put_each.ensures.follows in
+    all_close _ _ _ c.requires c.new-list.result c.new-list.ensures.begins all c.push_zeros.ensures.follows
 
 pub returns : goal.returns
 returns c =
-    let all = passed c.args.total c.args.groups.now c.args.out.now c.requires c.loop-i.invariant c.put_each-listed.ensures in
-    rw (c.finish.ensures.0, c.finish.ensures.1, c.store-written.ensures.0, c.store-written.ensures.1)
-    (ends _ _ _ c.requires.0 c.requires.1 c.requires.2 c.requires.3 all c.step_zeros-step.ensures)
+    let all = passed _ _ _ c.requires c.new-list.result c.new-list.ensures.begins c.loop-part.part-index c.loop-part.invariant.follows
+    c.as_chunks.ensures.back (omega arith) c.put_each.ensures.follows in
+    let e = c.finish.ensures in
+    let end = all_ends _ _ _ c.requires c.new-list.result c.new-list.ensures.begins all c.push_zeros.ensures.follows in
+    (e.0 ∙ end.0, search (rules, e, end))

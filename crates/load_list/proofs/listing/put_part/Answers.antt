@@ -2,12 +2,12 @@
 use mathlib.Core.Path.{sym, ◌∙◌}
 use Prim.Native.Nat.{◌*◌}
 use Rattle.words.specs.Words.{all_ones}
-use Rattle.load_list.proofs.listing.Alike.{alike-replicate}
+use Rattle.load_list.proofs.listing.Alike.{alike_numbers, alike-replicate}
 use Rattle.load_list.proofs.listing.Loop.{follows_run}
 use Rattle.load_list.proofs.listing.put_part.Goals as goal
 
-pub returns-then-all_alike : goal.returns-then-all_alike
-returns-then-all_alike c =
-    let alike = sym c.all_alike.ensures ∙ c.if-all_alike.true in
-    rw (alike-replicate (c.args.pending.bit * all_ones) c.args.groups.now 8 c.requires.1 alike)
-    (follows_run c.args.pending 8 c.args.at c.args.out.now c.requires.0.is_bit)
+pub returns-then-all_alike-clause-follows : goal.returns-then-all_alike-clause-follows
+returns-then-all_alike-clause-follows c =
+    let number = c.args.list.now.pending.bit * all_ones in
+    let alike = sym (alike_numbers number c.args.groups.now) ∙ sym c.all_alike.ensures ∙ c.if-all_alike.true in
+    rw (alike-replicate number c.args.groups.now 8 c.told-groups alike) (follows_run c.args.list.now 8 c.requires.0.is_bit)

@@ -11,28 +11,29 @@ use Rattle.block_read.proofs.FenceLaws.{Stands, stands_place}
 use Rattle.memory.specs.Memory.{block_at, list_at}
 use Rattle.memory.proofs.FenceRecords.{before_stands, before_finds}
 use Rattle.memory.proofs.Places.{length-block_at}
+use Rattle.blocks.proofs.Opened.{limits_of, spacing_read}
 use Rattle.memory.proofs.fence.find_fence.Goals as goal
 
 pub overflow_cast-group : goal.overflow_cast-group
 overflow_cast-group c =
-    omega (arith, few_fences c.args.sizes c.requires.0, few-groups c.args.sizes c.requires.0, c.requires.3)
+    omega (arith, few_fences c.args.sizes (limits_of c.sizes.view_is c.sizes.invariant), few-groups c.args.sizes (limits_of c.sizes.view_is c.sizes.invariant), c.requires.2)
 
 pub overflow_mul-group : goal.overflow_mul-group
 overflow_mul-group c =
-    omega (arith, fence_group c.args.sizes c.requires.0 c.args.j c.requires.3, few-groups c.args.sizes c.requires.0)
+    rw (spacing_read c.sizes.view_is) (omega (arith, fence_group c.args.sizes (limits_of c.sizes.view_is c.sizes.invariant) c.args.j c.requires.2, few-groups c.args.sizes (limits_of c.sizes.view_is c.sizes.invariant)))
 
 pub next_fence-requires : goal.next_fence-requires
 next_fence-requires c =
     let list : List ℕ = list_at c.args.sizes c.args.words.now c.args.value in
-    let stands : Stands list (c.args.j * c.args.sizes.spacing) c.args.before = rw c.requires.4 (before_stands c.args.sizes list c.args.j) in
+    let stands : Stands list (c.args.j * c.args.sizes.spacing) c.args.before = rw c.requires.3 (before_stands c.args.sizes list c.args.j) in
     let a = c.args in
-    let is = c.block_of.ensures in (
-      c.requires.0,
-      rw is (length-block_at a.sizes a.words.now a.value c.requires.1),
-      rw is c.requires.2,
+    let is = c.block_of.ensures in
+    rw (spacing_read c.sizes.view_is) (
+      rw is (length-block_at a.sizes a.words.now a.value c.requires.0),
+      rw is c.requires.1,
       rw is (stands_place a.sizes (block_at a.sizes a.words.now a.value) _ a.before stands),
       stands.early,
-      omega (arith, fence_group a.sizes c.requires.0 a.j c.requires.3, few-groups a.sizes c.requires.0),
+      omega (arith, fence_group a.sizes (limits_of c.sizes.view_is c.sizes.invariant) a.j c.requires.2, few-groups a.sizes (limits_of c.sizes.view_is c.sizes.invariant)),
     )
 
 pub returns : goal.returns
@@ -41,5 +42,5 @@ returns c =
     let a = c.args in
     let group = a.j * a.sizes.spacing in
     let here = ap (λ (block : List ℕ). locate_from (value_list a.sizes block) a.before group) c.block_of.ensures in
-    let before = ap (λ (fence : Fence). locate_from list fence group) c.requires.4 in
-    c.next_fence.ensures ∙ here ∙ before ∙ before_finds a.sizes list a.j
+    let before = ap (λ (fence : Fence). locate_from list fence group) c.requires.3 in
+    (rw (spacing_read c.sizes.view_is) at c.next_fence.ensures) ∙ here ∙ before ∙ before_finds a.sizes list a.j

@@ -5,5 +5,5 @@ use Rattle.memory.proofs.row.is_damaged.Goals as goal
 pub returns-then-row : goal.returns-then-row
 returns-then-row c = rw c.if-row.true refl
 
-pub returns : goal.returns
-returns c = rw c.if-row.false refl
+pub returns-else-row : goal.returns-else-row
+returns-else-row c = rw c.if-row.false refl

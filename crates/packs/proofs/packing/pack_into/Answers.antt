@@ -1,63 +1,40 @@
 -- `pack_into` writes the list of the rows group by group: its loop keeps `Packing`.
-use mathlib.Core.Path.{◌∙◌, ap}
-use Prim.Native.Nat.{◌-◌}
-use native.Mathlib.Omega.{arith}
-use lib.ListN.{length, drop, length-take}
-use lib.Seq.{length-sets}
-use Rattle.groups.proofs.Bits.{are_bits-take, are_bits-drop}
-use Rattle.packs.proofs.packing.Loop.{starts, turn_fits, turns, finish_fits, finishes}
+use mathlib.Core.Path.{refl, ◌∙◌}
+use Rattle.std.proofs.Common.{arith, rules}
+use Rattle.packs.proofs.packing.Loop.{starts, cut_of, part_bits, turn_fits, turns, finish_fits, finishes}
 use Rattle.packs.proofs.packing.pack_into.Goals as goal
 
-pub loop-at-init : goal.loop-at-init
-loop-at-init c = starts _ _
+pub loop-part-init : goal.loop-part-init
+loop-part-init c = record { packing = starts _ _ _ _ (cc) c.requires.0 c.new-list.ensures.begins; size = cc; same_reference = refl }
 
-pub group_of-group-requires : goal.group_of-group-requires
-group_of-group-requires c =
-    let at = c.loop-at.at in
-    let count = c.smaller-end.result - at in
-    let rows = c.args.rows.now in (
-      are_bits-take count (drop at rows) (are_bits-drop at rows c.requires.0),
-      omega (arith, length-take count (drop at rows), c.smaller-end.ensures),
-    )
+pub group_of-requires : goal.group_of-requires
+group_of-requires c =
+    let l = c.loop-part in
+    let cut = cut_of l.invariant.size c.in-Some.ensures.steps.1 in
+    (part_bits cut l.invariant.packing.bits, omega (arith, cut.long))
 
-pub next_step-step-requires : goal.next_step-step-requires
-next_step-step-requires c =
-    let l = c.loop-at in
-    (l.invariant.writing.is_bit, omega arith, omega (arith, l.invariant.few, l.invariant.within, c.requires.1), λ p q. omega arith)
+pub push-requires : goal.push-requires
+push-requires c =
+    let l = c.loop-part in
+    let cut = cut_of l.invariant.size c.in-Some.ensures.steps.1 in
+    (omega arith, λ p q. omega arith, turn_fits l.invariant.packing c.requires.1 c.requires.2 cut c.group_of.result c.group_of.ensures)
 
-pub store-written-requires : goal.store-written-requires
-store-written-requires c =
-    let l = c.loop-at in
-    let s = c.next_step-step in (
-      s.ensures.few,
-      turn_fits l.invariant c.requires.2 c.smaller-end.result c.group_of-group.result s.result
-          c.loop-at-test.true c.smaller-end.ensures c.group_of-group.ensures s.ensures,
-    )
-
-pub loop-at-preserved : goal.loop-at-preserved
-loop-at-preserved c =
-    let l = c.loop-at in
-    let s = c.next_step-step in
-    let e = c.store-written.ensures in
-    rw (e.0, e.1)
-    (turns l.invariant c.requires.2 c.smaller-end.result c.group_of-group.result s.result
-    c.loop-at-test.true c.smaller-end.ensures c.group_of-group.ensures s.ensures)
+pub loop-part-preserved : goal.loop-part-preserved
+loop-part-preserved c =
+    let l = c.loop-part in
+    let cut = cut_of l.invariant.size c.in-Some.ensures.steps.1 in
+    record {
+      packing = turns l.invariant.packing c.requires.1 c.requires.2 cut c.group_of.result c.group_of.ensures c.push.ensures.follows;
+      size = cc;
+      same_reference = cc;
+    }
 
 pub finish-requires : goal.finish-requires
 finish-requires c =
-    let l = c.loop-at in (
-      l.invariant.writing.is_bit,
-      omega (arith, l.invariant.few, l.invariant.within, c.requires.1),
-      finish_fits l.invariant c.requires.2 c.loop-at-test.false,
-    )
-
-pub shape_of-out : goal.shape_of-out
-shape_of-out c =
-    let l = c.loop-at in
-    ap length c.finish.ensures.1 ∙ simp length-sets l.invariant.writing.same
+    finish_fits c.loop-part.invariant.packing c.requires.1 c.requires.2 c.in-None.ensures.steps.1.0
 
 pub returns : goal.returns
 returns c =
-    let l = c.loop-at in
     let e = c.finish.ensures in
-    rw (e.0, e.1) (finishes l.invariant c.requires.2 c.loop-at-test.false)
+    let end = finishes c.loop-part.invariant.packing c.requires.1 c.requires.2 c.in-None.ensures.steps.1.0 in
+    (e.0 ∙ end.0, search (rules, e, end))

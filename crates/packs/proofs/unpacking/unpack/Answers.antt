@@ -28,14 +28,14 @@ slice_bounds-unpack_into-end-2 c =
 pub unpack_into-requires : goal.unpack_into-requires
 unpack_into-requires c =
     let a = c.args in
-    let checked = sym c.in-Whole.is ∙ c.check.ensures in
+    let checked = sym c.in-Ok.is ∙ c.check.ensures in
     let can = passes a.list.now a.length a.out.now c.if-length-gt-ROW_LIMIT.false c.if-out-length.false checked in
     has_rows a.list.now a.length a.out.now can
 
 pub returns : goal.returns
 returns c =
     let a = c.args in
-    let checked = sym c.in-Whole.is ∙ c.check.ensures in
+    let checked = sym c.in-Ok.is ∙ c.check.ensures in
     let can = passes a.list.now a.length a.out.now c.if-length-gt-ROW_LIMIT.false c.if-out-length.false checked in
     let rows = c.unpack_into in
     done a.list.now a.length a.out.now can rows.new.out rows.ensures

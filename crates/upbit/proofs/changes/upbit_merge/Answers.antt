@@ -3,4 +3,4 @@ use Rattle.upbit.proofs.Telling.{change_told}
 use Rattle.upbit.proofs.changes.upbit_merge.Goals as goal
 
 pub returns : goal.returns
-returns c = change_told c.merge.ensures c.changed_numbers.ensures
+returns c = change_told c.merge.ensures c.from.ensures

@@ -3,4 +3,4 @@ use Rattle.upbit.proofs.Telling.{answer_told}
 use Rattle.upbit.proofs.packing.upbit_unpack.Goals as goal
 
 pub returns : goal.returns
-returns c = answer_told c.unpack.ensures c.answer_numbers.ensures
+returns c = answer_told c.unpack.ensures c.from.ensures

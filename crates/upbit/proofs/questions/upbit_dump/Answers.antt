@@ -3,4 +3,4 @@ use Rattle.upbit.proofs.Telling.{answer_told}
 use Rattle.upbit.proofs.questions.upbit_dump.Goals as goal
 
 pub returns : goal.returns
-returns c = answer_told c.dump.ensures c.answer_numbers.ensures
+returns c = answer_told c.dump.ensures c.from.ensures

@@ -3,4 +3,4 @@ use Rattle.upbit.proofs.Telling.{answer_told}
 use Rattle.upbit.proofs.questions.upbit_query.Goals as goal
 
 pub returns : goal.returns
-returns c = answer_told c.query.ensures c.answer_numbers.ensures
+returns c = answer_told c.query.ensures c.from.ensures

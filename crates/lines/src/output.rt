@@ -1,0 +1,44 @@
+// What goes to the screen. It gathers in a buffer of its own, and is written out where the buffer is full and
+// where it is flushed.
+ghost use Rattle.std.specs.Prelude.{◌≤◌};
+ghost use Rattle.lines.specs.declared.output.TheConstants.{BUFFER};
+
+use std::io::{self, Stdout, Write};
+
+const BUFFER: usize = 4096;
+
+#[derive(Drop)]
+pub struct Output {
+    screen: Stdout,
+    bytes: [u8; BUFFER],
+    len: usize,
+    ghost in_buffer: { len ≤ BUFFER },
+}
+
+impl Output {
+    pub fn new(screen: Stdout) -> Output {
+        Output {
+            screen,
+            bytes: [0; BUFFER],
+            len: 0,
+        }
+    }
+}
+
+impl Write for Output {
+    fn write(&mut self, bytes: &[u8]) -> io::Result<usize> {
+        if self.len == BUFFER {
+            self.flush()?;
+        }
+        let count = bytes.len().min(BUFFER - self.len);
+        self.bytes[self.len..self.len + count].copy_from_slice(&bytes[..count]);
+        self.len += count;
+        Ok(count)
+    }
+
+    fn flush(&mut self) -> io::Result<()> {
+        self.screen.write_all(&self.bytes[..self.len])?;
+        self.len = 0;
+        Ok(())
+    }
+}
