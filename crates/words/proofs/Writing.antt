@@ -6,7 +6,7 @@ use native.Mathlib.Omega.{arith}
 use lib.ListN.{length, take, drop, length-append, length-take, take-append-drop, drop_of_length-le}
 use lib.Seq.{sets, sets-eq, length-sets, length-take-le, drop-drop}
 use Rattle.words.specs.Words.{encode}
-use Rattle.words.specs.Inner.{after, written, last_words, Fits, Follows, Closes}
+use Rattle.words.specs.Inner.{after, written, last_words, Takes, Fits, Follows, Closes}
 use Rattle.words.specs.declared.writer.Pending.{Pending}
 use Rattle.words.specs.declared.writer.Step.{Step}
 use Rattle.words.specs.declared.writer.ListWriter.{ListWriter}
@@ -67,6 +67,17 @@ module _ {total rest out₀ out : List ℕ} {at : ℕ} {pending : Pending} (w : 
             whole = rw (sets-front out at count words long words_fit, append_assoc, ← law) w.whole;
             kept = sets_behind out at count words long words_fit ∙ drop_further out out₀ at count w.kept;
           }
+
+    -- a step that takes in the next groups
+    module _ (groups more : List ℕ) (step : Step) (e : rest ≡ groups ++ more) (t : Takes pending groups step) where
+      step_law : encode (after pending rest) ≡ written step ++ encode (after step.pending more)
+      step_law = rw e (t.law more)
+
+      pub step_fits : at + step.words ≤ length out
+      step_fits = words_fit more (written step) step.words step.pending (written-length step t.few) step_law
+
+      pub step_on : Writing total more out₀ (sets out at (written step)) (at + step.words) step.pending
+      step_on = words_on more (written step) step.words step.pending (written-length step t.few) step_law t.is_bit
 
     -- no group is left
     module _ (e : rest ≡ []) where

@@ -153,7 +153,7 @@ fn step_literal(pending: Pending, group: u32) -> Step
 }
 
 // `count` times one group come after a pending run; more than once only where the group is uniform.
-fn next_step(pending: Pending, group: u32, count: u32) -> Step
+pub fn next_step(pending: Pending, group: u32, count: u32) -> Step
     requires { (pending.bit < 2) × (0 < count) × (pending.count + count < 0x40000000) × Alone group count }
     ensures { Takes pending (replicate count group) result }
 {
@@ -167,7 +167,7 @@ fn next_step(pending: Pending, group: u32, count: u32) -> Step
 }
 
 // Writes a step's words from place `at` on; answers the next place.
-fn store(out: &mut [u32], at: usize, step: Step) -> usize
+pub fn store(out: &mut [u32], at: usize, step: Step) -> usize
     requires { (step.words ≤ 2) × (at + step.words ≤ length out.old) }
     ensures { (result ≡ at + step.words) × (out.new ≡ sets out.old at (written step)) }
 {
@@ -184,7 +184,7 @@ fn store(out: &mut [u32], at: usize, step: Step) -> usize
 }
 
 // Writes the run that is pending when no group is left; answers the length of the list.
-fn finish(out: &mut [u32], at: usize, pending: Pending) -> usize
+pub fn finish(out: &mut [u32], at: usize, pending: Pending) -> usize
     requires { (pending.bit < 2) × (pending.count < 0x40000000) × (at + length (last_words pending) ≤ length out.old) }
     ensures { (result ≡ at + length (last_words pending)) × (out.new ≡ sets out.old at (last_words pending)) }
 {
