@@ -121,8 +121,9 @@ fn put_short(out: &mut [u8], group: u32)
     requires { length out.old ≤ 31 }
     ensures { out.new ≡ take (length out.old) (bits_of 31 group) }
 {
+    let masks = MASKS;
     for (i, row) in out.iter_mut().enumerate() {
-        *row = row_of(group, i);
+        *row = under(group, masks[i]);
     }
 }
 
