@@ -23,18 +23,16 @@ pub fn walk_to(list: &[u32], first: u32, group: u32, budget: usize) -> Option<Co
     }
     let most = budget.min(list.len());
     let mut skip = group - first;
-    let mut opened: usize = 0;
-    for word in &list[..most] {
-        opened += 1;
-        let span = span_of(*word);
+    for (place, &word) in list[..most].iter().enumerate() {
+        let span = span_of(word);
         if span == 0 {
             return None;
         }
         if skip < span {
             return Some(Covering {
-                word: *word,
+                word,
                 beyond: span - 1 - skip,
-                opened,
+                opened: place + 1,
             });
         }
         skip -= span;
