@@ -3,13 +3,14 @@ use Rattle.std.specs.Prelude.{Result, Ok, Err, ◌≡◌, ℕ, ◌+◌, ◌*◌,
 use Rattle.words.specs.Words.{all_ones, run_of, decode, no_fill, well_formed, canonical}
 use Rattle.list_check.specs.declared.check.NotCanonical.{NotCanonical}
 
--- the check of a list for L rows: canonical, or bad
+-- what the check answers: the list is canonical, or it is not
 abbrev pub accepted : Result (Unit {0}) NotCanonical
 accepted = Ok tt
 
 abbrev pub rejected : Result (Unit {0}) NotCanonical
 rejected = Err (record {})
 
+-- the check of a list for L rows
 unfoldable pub check_of : List ℕ → ℕ → Result (Unit {0}) NotCanonical
 check_of list rows = cond (canonical rows list) accepted rejected
 

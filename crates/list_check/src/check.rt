@@ -18,7 +18,7 @@ const FAULT: u32 = 0xFFFFFFFF;
 // How many words are looked at together for runs.
 const STRIDE: usize = 64;
 
-// A list that is not the canonical one of any rows.
+// The list is not the canonical one for its number of rows.
 #[derive(Clone, Copy)]
 pub struct NotCanonical;
 
