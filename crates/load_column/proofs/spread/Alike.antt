@@ -22,14 +22,14 @@ each_alike byte (row ∷ rows) each = rw (eq-eqb row byte (each 0 (omega arith))
 
 -- a window of sixteen rows
 module _ (rows : List ℕ) (at : ℕ) (inside : at + 16 ≤ length rows) where
-  window_length : length (take 16 (drop at rows)) ≡ 16
+  pub window_length : length (take 16 (drop at rows)) ≡ 16
   window_length = length-take-le 16 (drop at rows) (rw length-drop (omega arith))
 
   in_window : (i : ℕ) → i < 16 → get_or (take 16 (drop at rows)) i 0 ≡ get_or rows (at + i) 0
   in_window i h = get_or-take 16 (drop at rows) i 0 h ∙ get_or-drop at rows i 0
 
 -- the first row and two windows are all rows
-two_windows : (rows : List ℕ) → length rows ≡ 31
+pub two_windows : (rows : List ℕ) → length rows ≡ 31
     → all_alike (get_or rows 0 0) rows ≡ all_alike (get_or rows 0 0) (take 16 (drop 1 rows)) && all_alike (get_or rows 0 0) (take 16 (drop 15 rows))
 two_windows rows long =
     let byte = get_or rows 0 0 in
