@@ -195,10 +195,13 @@ pub fn finish(out: &mut [u32], at: usize, pending: Pending) -> usize
     at + 1
 }
 
-// Writes a finished list over the front of an output; what comes after it stays.
+// Writes a finished list over the front of an output; what comes after it stays. Word by word: by
+// `copy_from_slice` the library for C would need `memmove`, since what is known of the two slices is lost there.
 pub fn copy(list: &[u32], out: &mut [u32])
     requires { length list.now ≤ length out.old }
     ensures { out.new ≡ list.now ++ drop (length list.now) out.old }
 {
-    out[..list.len()].copy_from_slice(list);
+    for (i, &word) in list.iter().enumerate() {
+        out[i] = word;
+    }
 }
