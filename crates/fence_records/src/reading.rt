@@ -16,7 +16,7 @@ pub fn read_row(words: &[u32], fences: &[Fence], header: Header, sizes: Sizes, r
     requires { Planned header sizes (length words.now) (length fences.now) }
     ensures { result ≡ row_of header (memory_of words.now fences.now) row }
 {
-    let nearest = fence_of(sizes, row);
+    let nearest = fence_of(sizes.spacing, row);
     let mask = row_mask(row);
     let count = sizes.fences;
     let mut found = no_row();

@@ -1,5 +1,5 @@
 -- Definitions that the contracts of inner functions alone cite: what a call that changes rows is to do, decided before anything is written.
-use Rattle.std.specs.Prelude.{Option, Some, None, Result, cond, ℕ, eqb}
+use Rattle.std.specs.Prelude.{Option, Some, None, Result, Ok, Err, cond, ℕ, eqb}
 use Rattle.answers.specs.declared.Refusal.{Refusal}
 use Rattle.memory.specs.Inner.{decided}
 use Rattle.memory.specs.Memory.{Memory, sizes_of}
@@ -15,10 +15,10 @@ module _ (header : Header) (memory : Memory) where
   flips_in value row = record { sizes = sizes_of header; value = value; merges = merges_in (sizes_of header) memory.words value row }
 
   unfoldable pub insert_decision : ℕ → Result Flipping Refusal
-  insert_decision value = decided (insert_checks header memory value) (flips_in value header.issued)
+  insert_decision value = decided Err (insert_checks header memory value) (Ok (flips_in value header.issued))
 
   unfoldable pub delete_decision : ℕ → Result Flipping Refusal
-  delete_decision row = decided (delete_checks header memory row) (flips_in (old_value header memory row) row)
+  delete_decision row = decided Err (delete_checks header memory row) (Ok (flips_in (old_value header memory row) row))
 
   -- a flip in the old value and one in the new
   abbrev pub moves_in : ℕ → ℕ → ℕ → Moving
@@ -33,5 +33,5 @@ module _ (header : Header) (memory : Memory) where
   -- nothing is to be done where the values are the same
   unfoldable pub update_decision : ℕ → ℕ → Result (Option Moving) Refusal
   update_decision row value =
-      decided (update_checks header memory row value)
-      (cond (eqb (old_value header memory row) value) None (Some (moves_in (old_value header memory row) value row)))
+      decided Err (update_checks header memory row value)
+      (Ok (cond (eqb (old_value header memory row) value) None (Some (moves_in (old_value header memory row) value row))))

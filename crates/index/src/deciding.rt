@@ -11,7 +11,7 @@ use change_value::value::decide_flip;
 use fence_records::reading::read_row;
 use memory::entry::{enter_insert, enter_row, enter_update};
 use memory::header::Header;
-use memory::row::holder_of;
+use memory::row::legible_holder;
 
 // What Insert or Delete is to do: a flip of its row in a value, and whether it merges first.
 #[derive(Clone, Copy)]
@@ -42,7 +42,7 @@ pub fn decide_insert(
 {
     let sizes = enter_insert(words.len(), fences.len(), header, value)?;
     let found = read_row(words, fences, header, sizes, header.issued);
-    let Ok(holder) = holder_of(found) else {
+    let Ok(holder) = legible_holder(found) else {
         return Err(Refusal::Damaged);
     };
     let None = holder else {
@@ -69,7 +69,7 @@ pub fn decide_delete(
 {
     let sizes = enter_row(words.len(), fences.len(), header, row)?;
     let found = read_row(words, fences, header, sizes, row);
-    let Ok(holder) = holder_of(found) else {
+    let Ok(holder) = legible_holder(found) else {
         return Err(Refusal::Damaged);
     };
     let Some(value) = holder else {
@@ -98,7 +98,7 @@ pub fn decide_update(
 {
     let sizes = enter_update(words.len(), fences.len(), header, row, value)?;
     let found = read_row(words, fences, header, sizes, row);
-    let Ok(holder) = holder_of(found) else {
+    let Ok(holder) = legible_holder(found) else {
         return Err(Refusal::Damaged);
     };
     let Some(old) = holder else {

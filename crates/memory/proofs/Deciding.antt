@@ -22,7 +22,7 @@ use Rattle.memory.specs.declared.header.Header.{Header}
 -- ---- an entry
 
 -- a stop stays, whatever is asked behind it
-stays : (refusal : Refusal) (checks : List Check) → asked_all (Err refusal) checks ≡ Err refusal
+stays : {A : Type 0} (refusal : Refusal) (checks : List Check) → asked_all {A = A} (Err refusal) checks ≡ Err refusal
 stays refusal [] = refl
 stays refusal (check ∷ checks) = stays refusal checks
 
@@ -64,8 +64,8 @@ module _ {A : Type 0} {read : List Check → A} {refused : Refusal → A} (refus
 
 -- ---- what reads them: a decision, a change, a call with an output
 
-pub decided_refuses : {A : Type 0} (done : A) → Refuses (λ checks. decided checks done) Err
-decided_refuses done = record { stops = λ refusal checks. refl; goes_on = λ refusal checks. refl }
+pub decided_refuses : {A : Type 0} (refused : Refusal → A) (done : A) → Refuses (λ checks. decided refused checks done) refused
+decided_refuses refused done = record { stops = λ refusal checks. refl; goes_on = λ refusal checks. refl }
 
 -- refused: the header given back, the memory as it was
 abbrev pub refused_change : Header → Memory → Refusal → After
@@ -83,21 +83,32 @@ outcome_refuses result out = record { stops = λ refusal checks. refl; goes_on =
 
 -- ---- a decision and the change that carries it out have the same checks
 
-module _ {A : Type 0} (back : Header) (memory : Memory) (after : After) (done : A) where
+module _ {A : Type 0} {refused : Refusal → A} {done : A} (back : Header) (memory : Memory) (after : After) where
   -- THEOREM: where the decision refuses, the change is refused for that reason, and nothing is changed
-  pub refused_changes : (checks : List Check) (refusal : Refusal) → Err refusal ≡ decided checks done
+  pub refused_changes : ((refusal other : Refusal) → refused refusal ≡ refused other → refusal ≡ other) → ((refusal : Refusal) → done ≡ refused refusal → ⊥)
+      → (checks : List Check) (refusal : Refusal) → refused refusal ≡ decided refused checks done
       → change checks back memory after ≡ refused_change back memory refusal
-  refused_changes [] refusal e = absurd (not_ready (sym e))
-  refused_changes (first when true ∷ checks) refusal e = ap (refused_change back memory) (same_reason e)
-  refused_changes (first when false ∷ checks) refusal e = refused_changes checks refusal e
+  refused_changes same differs [] refusal e = absurd (differs refusal (sym e))
+  refused_changes same differs (first when true ∷ checks) refusal e = ap (refused_change back memory) (sym (same refusal first e))
+  refused_changes same differs (first when false ∷ checks) refusal e = refused_changes same differs checks refusal e
 
   -- THEOREM: where it does not, the change is made, as decided
-  pub decided_changes : (checks : List Check) (decision : A) → Ok decision ≡ decided checks done
+  pub decided_changes : (checks : List Check) (decision : A) → ((refusal : Refusal) → decision ≡ refused refusal → ⊥)
+      → decision ≡ decided refused checks done → (decision ≡ done) × (change checks back memory after ≡ after) × Passes checks
+  decided_changes [] decision differs e = (e, refl, tt)
+  decided_changes (first when true ∷ checks) decision differs e = absurd (differs first e)
+  decided_changes (first when false ∷ checks) decision differs e =
+      let rest = decided_changes checks decision differs e in (rest.0, rest.1, (refl, rest.2))
+
+-- both of a decision that is a Result
+module _ {A : Type 0} (back : Header) (memory : Memory) (after : After) (done : A) (checks : List Check) where
+  pub err_changes : (refusal : Refusal) → Err refusal ≡ decided Err checks (Ok done) → change checks back memory after ≡ refused_change back memory refusal
+  err_changes = refused_changes {refused = Err} back memory after (λ refusal other e. sym (same_reason e)) (λ refusal. not_ready) checks
+
+  pub ok_changes : (decision : A) → Ok decision ≡ decided Err checks (Ok done)
       → (decision ≡ done) × (change checks back memory after ≡ after) × Passes checks
-  decided_changes [] decision e = (same_decision e, refl, tt)
-  decided_changes (first when true ∷ checks) decision e = absurd (not_ready e)
-  decided_changes (first when false ∷ checks) decision e =
-      let rest = decided_changes checks decision e in (rest.0, rest.1, (refl, rest.2))
+  ok_changes decision e =
+      let told = decided_changes {refused = Err} back memory after checks (Ok decision) (λ refusal. not_ready) e in (same_decision told.0, told.1, told.2)
 
 -- ---- what the entry into an index says
 

@@ -40,18 +40,18 @@ fence_before sizes list (suc j) = fence_at sizes list j
 -- ---- checks in their order
 
 -- the first reason that applies, or what is to be done where none does
-abbrev pub decided : {A : Type 0} → List Check → A → Result A Refusal
-decided [] done = Ok done
-decided ((refusal when true) ∷ checks) done = Err refusal
-decided ((refusal when false) ∷ checks) done = decided checks done
+abbrev pub decided : {A : Type 0} → (Refusal → A) → List Check → A → A
+decided refused [] done = done
+decided refused ((refusal when true) ∷ checks) done = refused refusal
+decided refused ((refusal when false) ∷ checks) done = decided refused checks done
 
 -- one check more, after those that an entry has passed
-abbrev pub asked : Result Sizes Refusal → Check → Result Sizes Refusal
+abbrev pub asked : {A : Type 0} → Result A Refusal → Check → Result A Refusal
 asked (Err refusal) check = Err refusal
-asked (Ok sizes) (refusal when true) = Err refusal
-asked (Ok sizes) (refusal when false) = Ok sizes
+asked (Ok passed) (refusal when true) = Err refusal
+asked (Ok passed) (refusal when false) = Ok passed
 
-abbrev pub asked_all : Result Sizes Refusal → List Check → Result Sizes Refusal
+abbrev pub asked_all : {A : Type 0} → Result A Refusal → List Check → Result A Refusal
 asked_all entry [] = entry
 asked_all entry (check ∷ checks) = asked_all (asked entry check) checks
 
@@ -92,5 +92,9 @@ done_with header count = record { header = header; answer = Ok count }
 -- ---- a row that was read in all values
 
 -- the value that holds it, if one does
-unfoldable pub holder_of : Row → Result (Option ℕ) Unreadable
-holder_of row = cond (is_damaged row) (Err (record {})) (Ok (cond (is_deleted row) None (Some row.value)))
+unfoldable pub holder_of : Row → Option ℕ
+holder_of row = cond (is_deleted row) None (Some row.value)
+
+-- that value, where the row can be read
+unfoldable pub legible_holder : Row → Result (Option ℕ) Unreadable
+legible_holder row = cond (is_damaged row) (Err (record {})) (Ok (holder_of row))

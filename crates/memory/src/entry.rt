@@ -62,7 +62,11 @@ pub fn enter_index(words: usize, fences: usize, header: Header) -> Entry
 }
 
 // One check more, after those that an entry has passed.
-pub fn ask(entry: Entry, refusal: Refusal, applies: bool) -> Entry
+pub fn ask<T: Drop>(
+    entry: Result<T, Refusal>,
+    refusal: Refusal,
+    applies: bool,
+) -> Result<T, Refusal>
     ensures { result ≡ asked entry (refusal when applies) }
 {
     let passed = entry?;

@@ -30,9 +30,9 @@ pub fn find_fence(words: &[u32], sizes: Sizes, value: u32, before: Fence, j: usi
 }
 
 // Which of a value's fences serves a row: g div G, g being the row's group.
-pub fn fence_of(sizes: Sizes, row: u32) -> usize
-    requires { 0 < sizes.spacing }
-    ensures { result ≡ row / 31 / sizes.spacing }
+pub fn fence_of(spacing: u32, row: u32) -> usize
+    requires { 0 < spacing }
+    ensures { result ≡ row / 31 / spacing }
 {
-    (row / 31 / sizes.spacing) as usize
+    (row / 31 / spacing) as usize
 }

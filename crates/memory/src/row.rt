@@ -4,7 +4,7 @@ ghost use Rattle.block_read.specs.Read.{read_group};
 ghost use Rattle.blocks.specs.Sizes.{block_size};
 ghost use Rattle.memory.specs.Memory.{block_at};
 ghost use Rattle.memory.specs.Reading.{no_row, row_step, value_of, refused_value, is_damaged};
-ghost use Rattle.memory.specs.Inner.{holder_of};
+ghost use Rattle.memory.specs.Inner.{holder_of, legible_holder};
 
 use crate::place::block_of;
 use answers::Refusal;
@@ -133,15 +133,23 @@ pub fn refused(refusal: Refusal) -> Value
     }
 }
 
-// The value that holds a row which is read in all values, if one does.
-pub fn holder_of(row: Row) -> Result<Option<u32>, Unreadable>
+// The value that holds a row which is read in all values, if one does: of several, the last. Whether the row can be
+// read is not asked here.
+pub fn holder_of(row: Row) -> Option<u32>
     ensures { result ≡ holder_of row }
+{
+    if row.holders != 0 {
+        return Some(row.value);
+    }
+    None
+}
+
+// The holder of a row that can be read.
+pub fn legible_holder(row: Row) -> Result<Option<u32>, Unreadable>
+    ensures { result ≡ legible_holder row }
 {
     if is_damaged(row) {
         return Err(Unreadable);
     }
-    if row.holders == 0 {
-        return Ok(None);
-    }
-    Ok(Some(row.value))
+    Ok(holder_of(row))
 }

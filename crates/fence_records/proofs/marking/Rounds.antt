@@ -8,6 +8,7 @@ use native.Mathlib.Omega.{arith}
 use lib.ListN.{length, get_or, take, drop}
 use Rattle.groups.specs.Rows.{row_limit, groups_for}
 use Rattle.blocks.specs.Sizes.{block_size, fences_for, fence_count}
+use Rattle.blocks.specs.Inner.{Limits}
 use Rattle.blocks.specs.Block.{part}
 use Rattle.blocks.proofs.Parts.{part_slice, length_part, get_d_part}
 use Rattle.memory.specs.Inner.{Planned}
@@ -83,9 +84,10 @@ module _ {header : Header} {sizes : Sizes} (words : List ℕ) (fences : List Fen
         less : j < visits
         less = omega (arith, visited_long)
 
-        pub fence_asks : (value * block_size sizes + block_size sizes ≤ length words) × (value < 256) × (header.issued ≤ sizes.rows) × (header.issued ≤ length now)
+        pub fence_asks : Limits sizes × (value * block_size sizes + block_size sizes ≤ length words) × (value < 256) × (header.issued ≤ sizes.rows) × (header.issued ≤ length now)
             × (j < fences_for (groups_for header.issued) sizes.spacing)
         fence_asks = (
+          (fenced is value below).limits,
           (fenced is value below).inside,
           omega (arith, below, (numbers is).few_values),
           rw is.planned (numbers is).few_issued,

@@ -6,6 +6,7 @@ use native.Mathlib.Nat.{div-le_self}
 use native.Mathlib.Omega.{arith}
 use lib.ListN.{length, get_or}
 use Rattle.blocks.specs.Sizes.{block_size, fence_count}
+use Rattle.blocks.specs.Inner.{Limits}
 use Rattle.block_read.specs.Read.{read_group}
 use Rattle.memory.specs.Inner.{Planned}
 use Rattle.memory.specs.Fences.{no_fence}
@@ -37,12 +38,12 @@ module _ {header : Header} {sizes : Sizes} (words : List ℕ) (fences : List Fen
     module _ (found : Row) (before : found ≡ read_row sizes memory row value) where
       -- what the next read asks
       pub may_read : (mask : ℕ) → mask ≡ 2 ^ (30 - row % 31)
-          → (value * block_size sizes + block_size sizes ≤ length words) × (mask ≡ 2 ^ (30 - row % 31)) × (found.holders < 64)
+          → Limits sizes × (value * block_size sizes + block_size sizes ≤ length words) × (mask ≡ 2 ^ (30 - row % 31)) × (found.holders < 64)
           × (found.opened ≤ 48321)
       may_read mask is-mask =
           let fits = row_fits sizes memory row (limits is) value (omega (arith, below, (numbers is).few_values)) in
           let inside = fenced is value below in
-          rw before (inside.inside, is-mask, fits.0, fits.1)
+          rw before (inside.limits, inside.inside, is-mask, fits.0, fits.1)
 
       -- the round
       pub reads : (nearest : ℕ) → nearest ≡ row / 31 / sizes.spacing

@@ -10,6 +10,7 @@ use Rattle.answers.specs.Outcome.{Check, ◌when◌, Gives}
 use Rattle.answers.specs.declared.Refusal.{Refusal}
 use Rattle.answers.specs.declared.Refusal.TheVariants.{Damaged, OutSmall}
 use Rattle.blocks.specs.Sizes.{block_size}
+use Rattle.blocks.specs.Inner.{Limits}
 use Rattle.blocks.specs.declared.sizes.Sizes.{Sizes}
 use Rattle.block_read.specs.declared.fence.Fence.{Fence}
 use Rattle.block_change.specs.Inner.{list_outcome}
@@ -77,8 +78,8 @@ module _ (words : List ℕ) (fences : List Fence) (header : Header) where
           (record { answers = refl; leaves = refl })
 
       module _ (sizes : Sizes) (ready : Ok sizes ≡ entered_whole words (length fences) header value) where
-        pub query_asks : (value * block_size sizes + block_size sizes ≤ length words) × (whole sizes words value ≡ true)
-        query_asks = let asks = whole_asks sizes ready in (asks.0.inside, asks.1)
+        pub query_asks : Limits sizes × (value * block_size sizes + block_size sizes ≤ length words) × (whole sizes words value ≡ true)
+        query_asks = let asks = whole_asks sizes ready in (asks.0.limits, asks.0.inside, asks.1)
 
         -- the outcome is that of the value's own list
         same_outcome : list_outcome sizes (block_at sizes words value) out ≡ query_outcome header memory value out

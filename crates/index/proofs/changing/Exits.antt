@@ -22,7 +22,7 @@ use Rattle.memory.specs.Outcomes.{After, made, Leaves}
 use Rattle.memory.specs.Reading.{row_of, is_damaged, is_deleted, is_free}
 use Rattle.memory.specs.declared.header.Header.{Header}
 use Rattle.memory.specs.declared.header.Changed.{Changed}
-use Rattle.memory.proofs.Deciding.{Enters, passes_enters, change_refuses, stop_refused, ready_goes_on, refused_changes, decided_changes}
+use Rattle.memory.proofs.Deciding.{Enters, passes_enters, change_refuses, stop_refused, ready_goes_on, err_changes, ok_changes}
 use Rattle.memory.proofs.Places.{numbers, fenced}
 use Rattle.memory.proofs.RowLaws.{row-value}
 use Rattle.change_value.specs.Change.{whole, merges_in, flipped_words, merged_in, flipped_in}
@@ -96,13 +96,13 @@ module _ (words : List ℕ) (fences : List Fence) (header : Header) where
     unfolding insert_decision insert_after
     insert_kept refusal kept =
         refused_leaves header words fences refusal (insert_after header memory value)
-        (refused_changes header memory inserting (flips_in header memory value header.issued) (insert_checks header memory value) refusal kept)
+        (err_changes header memory inserting (flips_in header memory value header.issued) (insert_checks header memory value) refusal kept)
 
     module _ (flip : Flipping) (flips : Ok flip ≡ insert_decision header memory value) where
       inserts : (flip ≡ flips_in header memory value header.issued) × (insert_after header memory value ≡ inserting)
           × Passes (insert_checks header memory value)
       unfolding insert_decision insert_after
-      inserts = decided_changes header memory inserting (flips_in header memory value header.issued) (insert_checks header memory value) flip flips
+      inserts = ok_changes header memory inserting (flips_in header memory value header.issued) (insert_checks header memory value) flip flips
 
       insert_enters : Enters (length words) (length fences) header insert_own (sizes_of header)
       insert_enters = passes_enters (length words) (length fences) header insert_own inserts.2
@@ -151,13 +151,13 @@ module _ (words : List ℕ) (fences : List Fence) (header : Header) where
     unfolding delete_decision delete_after
     delete_kept refusal kept =
         refused_leaves header words fences refusal (delete_after header memory row)
-        (refused_changes header memory deleting (flips_in header memory old_value_lem row) (delete_checks header memory row) refusal kept)
+        (err_changes header memory deleting (flips_in header memory old_value_lem row) (delete_checks header memory row) refusal kept)
 
     module _ (flip : Flipping) (flips : Ok flip ≡ delete_decision header memory row) where
       deletes : (flip ≡ flips_in header memory old_value_lem row) × (delete_after header memory row ≡ deleting)
           × Passes (delete_checks header memory row)
       unfolding delete_decision delete_after
-      deletes = decided_changes header memory deleting (flips_in header memory old_value_lem row) (delete_checks header memory row) flip flips
+      deletes = ok_changes header memory deleting (flips_in header memory old_value_lem row) (delete_checks header memory row) flip flips
 
       delete_enters : Enters (length words) (length fences) header delete_own (sizes_of header)
       delete_enters = passes_enters (length words) (length fences) header delete_own deletes.2
@@ -201,13 +201,13 @@ module _ (words : List ℕ) (fences : List Fence) (header : Header) where
       unfolding update_decision update_after
       update_kept refusal kept =
           refused_leaves header words fences refusal (update_after header memory row value)
-          (refused_changes header memory updating updates (update_checks header memory row value) refusal kept)
+          (err_changes header memory updating updates (update_checks header memory row value) refusal kept)
 
       -- a decision that is carried out
       module _ (decision : Option Moving) (decides : Ok decision ≡ update_decision header memory row value) where
         told : (decision ≡ updates) × (update_after header memory row value ≡ updating) × Passes (update_checks header memory row value)
         unfolding update_decision update_after
-        told = decided_changes header memory updating updates (update_checks header memory row value) decision decides
+        told = ok_changes header memory updating updates (update_checks header memory row value) decision decides
 
       -- to the value that it has: accepted, and nothing is changed
       pub update_same : Ok None ≡ update_decision header memory row value

@@ -12,13 +12,14 @@ use Rattle.answers.specs.Outcome.{Check, ◌when◌}
 use Rattle.answers.specs.declared.Refusal.{Refusal}
 use Rattle.answers.specs.declared.Refusal.TheVariants.{Damaged, Gone}
 use Rattle.blocks.specs.Sizes.{block_size}
+use Rattle.blocks.specs.Inner.{Limits}
 use Rattle.blocks.specs.Whole.{whole_lists}
 use Rattle.blocks.specs.declared.sizes.Sizes.{Sizes}
 use Rattle.block_read.specs.declared.fence.Fence.{Fence}
 use Rattle.block_change.specs.Change.{merge_due}
 use Rattle.block_change.specs.Inner.{flip_for}
 use Rattle.memory.specs.Entry.{bad_value, missing, full}
-use Rattle.memory.specs.Inner.{Planned, decided, entered_insert, entered_row, entered_update, holder_of}
+use Rattle.memory.specs.Inner.{Planned, decided, entered_insert, entered_row, entered_update, holder_of, legible_holder}
 use Rattle.memory.specs.Memory.{Memory, memory_of, sizes_of, block_at}
 use Rattle.memory.specs.Reading.{row_of, is_damaged, is_deleted, is_free}
 use Rattle.memory.specs.declared.header.Header.{Header}
@@ -40,16 +41,16 @@ module _ (row : Row) where
   abbrev said : Bool → Bool → Result (Option ℕ) Unreadable
   said damaged none = cond damaged (Err (record {})) (Ok (cond none None (Some row.value)))
 
-  unreadable_says : {reason : Unreadable} → Err reason ≡ holder_of row → is_damaged row ≡ true
-  unfolding holder_of
+  unreadable_says : {reason : Unreadable} → Err reason ≡ legible_holder row → is_damaged row ≡ true
+  unfolding legible_holder holder_of
   unreadable_says {reason} = go (is_damaged row)
     where
       go : (t : Bool) → Err reason ≡ said t (is_deleted row) → t ≡ true
       go true e = refl
       go false e = cc
 
-  missing_says : Ok None ≡ holder_of row → (is_damaged row ≡ false) × (is_deleted row ≡ true)
-  unfolding holder_of
+  missing_says : Ok None ≡ legible_holder row → (is_damaged row ≡ false) × (is_deleted row ≡ true)
+  unfolding legible_holder holder_of
   missing_says = go (is_damaged row) (is_deleted row)
     where
       go : (t none : Bool) → Ok None ≡ said t none → (t ≡ false) × (none ≡ true)
@@ -57,9 +58,9 @@ module _ (row : Row) where
       go false true e = (refl, refl)
       go false false e = (cc, cc)
 
-  found_says : (value : ℕ) → Ok (Some value) ≡ holder_of row
+  found_says : (value : ℕ) → Ok (Some value) ≡ legible_holder row
       → (is_damaged row ≡ false) × (is_deleted row ≡ false) × (value ≡ row.value)
-  unfolding holder_of
+  unfolding legible_holder holder_of
   found_says value = go (is_damaged row) (is_deleted row)
     where
       go : (t none : Bool) → Ok (Some value) ≡ said t none → (t ≡ false) × (none ≡ false) × (value ≡ row.value)
@@ -68,21 +69,21 @@ module _ (row : Row) where
       go false false e = (refl, refl, cc)
 
   -- row n is free, or it is not
-  free_says : Ok None ≡ holder_of row → is_free row ≡ true
+  free_says : Ok None ≡ legible_holder row → is_free row ≡ true
   free_says free = let says = missing_says free in go row.damaged (ltb 1 row.holders) says.0 says.1
     where
       go : (damaged more : Bool) → (damaged || more) ≡ false → is_deleted row ≡ true → (not damaged && is_deleted row) ≡ true
       go true more e none = cc
       go false more e none = none
 
-  damaged_says : {reason : Unreadable} → Err reason ≡ holder_of row → is_free row ≡ false
+  damaged_says : {reason : Unreadable} → Err reason ≡ legible_holder row → is_free row ≡ false
   damaged_says damage = go row.damaged (unreadable_says damage)
     where
       go : (damaged : Bool) → (damaged || ltb 1 row.holders) ≡ true → (not damaged && is_deleted row) ≡ false
       go true e = refl
       go false e = ne_eqb row.holders 0 (λ none. omega (arith, ltb-true 1 row.holders e))
 
-  held_says : (value : ℕ) → Ok (Some value) ≡ holder_of row → is_free row ≡ false
+  held_says : (value : ℕ) → Ok (Some value) ≡ legible_holder row → is_free row ≡ false
   held_says value held = rw (found_says value held).1 (and-false (not row.damaged))
 
 module _ (sizes : Sizes) (words : List ℕ) (value row : ℕ) where
@@ -110,11 +111,11 @@ module _ (words : List ℕ) (fences : List Fence) (header : Header) where
 
   -- what deciding a flip asks
   abbrev Asks : Sizes → ℕ → ℕ → Type 0
-  Asks sizes value row = (value * block_size sizes + block_size sizes ≤ length words) × (row < sizes.rows)
+  Asks sizes value row = Limits sizes × (value * block_size sizes + block_size sizes ≤ length words) × (row < sizes.rows)
 
   asks : {sizes : Sizes} → Planned header sizes (length words) (length fences) → (value row : ℕ) → value < header.values → row < header.rows
       → Asks sizes value row
-  asks is value row below issued = let inside = fenced is value below in (inside.inside, rw is.planned issued)
+  asks is value row below issued = let inside = fenced is value below in (inside.limits, inside.inside, rw is.planned issued)
 
   -- ---- Insert
 
@@ -135,7 +136,7 @@ module _ (words : List ℕ) (fences : List Fence) (header : Header) where
         → Err refusal ≡ insert_decision header memory value
     unfolding insert_decision
     insert_stops refusal stop =
-        sym (stop_refused (length words) (length fences) header insert_checks_lem (decided_refuses inserts) insert_behind refusal stop)
+        sym (stop_refused (length words) (length fences) header insert_checks_lem (decided_refuses Err (Ok inserts)) insert_behind refusal stop)
 
     module _ (sizes : Sizes) (ready : Ok sizes ≡ entered_insert (length words) (length fences) header value) where
       insert_enters : Enters (length words) (length fences) header insert_checks_lem sizes
@@ -144,18 +145,18 @@ module _ (words : List ℕ) (fences : List Fence) (header : Header) where
       pub insert_planned : Planned header sizes (length words) (length fences)
       insert_planned = insert_enters.planned
 
-      insert_goes_on : insert_decision header memory value ≡ decided insert_behind inserts
+      insert_goes_on : insert_decision header memory value ≡ decided Err insert_behind (Ok inserts)
       unfolding insert_decision
-      insert_goes_on = ready_goes_on (length words) (length fences) header insert_checks_lem (decided_refuses inserts) insert_behind sizes ready
+      insert_goes_on = ready_goes_on (length words) (length fences) header insert_checks_lem (decided_refuses Err (Ok inserts)) insert_behind sizes ready
 
       module _ (found : Row) (read : found ≡ next) where
-        pub insert_damaged : {reason : Unreadable} → Err reason ≡ holder_of found → Err Damaged ≡ insert_decision header memory value
+        pub insert_damaged : {reason : Unreadable} → Err reason ≡ legible_holder found → Err Damaged ≡ insert_decision header memory value
         insert_damaged damage = rw (insert_goes_on, ← read, damaged_says found damage) refl
 
-        pub insert_taken : (holder : ℕ) → Ok (Some holder) ≡ holder_of found → Err Damaged ≡ insert_decision header memory value
+        pub insert_taken : (holder : ℕ) → Ok (Some holder) ≡ legible_holder found → Err Damaged ≡ insert_decision header memory value
         insert_taken holder held = rw (insert_goes_on, ← read, held_says found holder held) refl
 
-        module _ (free : Ok None ≡ holder_of found) where
+        module _ (free : Ok None ≡ legible_holder found) where
           is_free_lem : is_free next ≡ true
           is_free_lem = rw read at (free_says found free)
 
@@ -183,17 +184,17 @@ module _ (words : List ℕ) (fences : List Fence) (header : Header) where
     abbrev holder_checks : List Check → List Check
     holder_checks rest = Damaged when is_damaged held ∷ Gone when is_deleted held ∷ rest
 
-    module _ (found : Row) (read : found ≡ held) {A : Type 0} (rest : List Check) (done : A) where
-      row_unreadable : {reason : Unreadable} → Err reason ≡ holder_of found → decided (holder_checks rest) done ≡ Err Damaged
+    module _ (found : Row) (read : found ≡ held) {A : Type 0} (refused : Refusal → A) (rest : List Check) (done : A) where
+      row_unreadable : {reason : Unreadable} → Err reason ≡ legible_holder found → decided refused (holder_checks rest) done ≡ refused Damaged
       row_unreadable unreadable = rw (← read, unreadable_says found unreadable) refl
 
-      row-missing : Ok None ≡ holder_of found → decided (holder_checks rest) done ≡ Err Gone
+      row-missing : Ok None ≡ legible_holder found → decided refused (holder_checks rest) done ≡ refused Gone
       row-missing missing = let says = missing_says found missing in rw (← read, says.0, says.1) refl
 
-      row_passes : (value : ℕ) → Ok (Some value) ≡ holder_of found → decided (holder_checks rest) done ≡ decided rest done
+      row_passes : (value : ℕ) → Ok (Some value) ≡ legible_holder found → decided refused (holder_checks rest) done ≡ decided refused rest done
       row_passes value holder = let says = found_says found value holder in rw (← read, says.0, says.1) refl
 
-    module _ (found : Row) (read : found ≡ held) (value : ℕ) (holder : Ok (Some value) ≡ holder_of found) where
+    module _ (found : Row) (read : found ≡ held) (value : ℕ) (holder : Ok (Some value) ≡ legible_holder found) where
       -- the holder is the row's old value, which is below d
       is_old : value ≡ old_value header memory row
       is_old = rw read at (found_says found value holder).2
@@ -220,7 +221,7 @@ module _ (words : List ℕ) (fences : List Fence) (header : Header) where
     unfolding delete_decision
     delete_stops refusal stop =
         sym
-        (stop_refused (length words) (length fences) header delete_checks_lem (decided_refuses deletes)
+        (stop_refused (length words) (length fences) header delete_checks_lem (decided_refuses Err (Ok deletes))
         (holder_checks (delete_behind (old_value header memory row))) refusal stop)
 
     module _ (sizes : Sizes) (ready : Ok sizes ≡ entered_row (length words) (length fences) header row) where
@@ -230,25 +231,25 @@ module _ (words : List ℕ) (fences : List Fence) (header : Header) where
       pub delete_planned : Planned header sizes (length words) (length fences)
       delete_planned = delete_enters.planned
 
-      delete_goes_on : delete_decision header memory row ≡ decided (holder_checks (delete_behind (old_value header memory row))) deletes
+      delete_goes_on : delete_decision header memory row ≡ decided Err (holder_checks (delete_behind (old_value header memory row))) (Ok deletes)
       unfolding delete_decision
       delete_goes_on =
-          ready_goes_on (length words) (length fences) header delete_checks_lem (decided_refuses deletes)
+          ready_goes_on (length words) (length fences) header delete_checks_lem (decided_refuses Err (Ok deletes))
           (holder_checks (delete_behind (old_value header memory row))) sizes ready
 
       module _ (found : Row) (read : found ≡ held) where
-        pub delete_unreadable : {reason : Unreadable} → Err reason ≡ holder_of found → Err Damaged ≡ delete_decision header memory row
-        delete_unreadable unreadable = sym (delete_goes_on ∙ row_unreadable found read (delete_behind (old_value header memory row)) deletes unreadable)
+        pub delete_unreadable : {reason : Unreadable} → Err reason ≡ legible_holder found → Err Damaged ≡ delete_decision header memory row
+        delete_unreadable unreadable = sym (delete_goes_on ∙ row_unreadable found read Err (delete_behind (old_value header memory row)) (Ok deletes) unreadable)
 
-        pub delete_gone : Ok None ≡ holder_of found → Err Gone ≡ delete_decision header memory row
-        delete_gone missing = sym (delete_goes_on ∙ row-missing found read (delete_behind (old_value header memory row)) deletes missing)
+        pub delete_gone : Ok None ≡ legible_holder found → Err Gone ≡ delete_decision header memory row
+        delete_gone missing = sym (delete_goes_on ∙ row-missing found read Err (delete_behind (old_value header memory row)) (Ok deletes) missing)
 
-        module _ (value : ℕ) (holder : Ok (Some value) ≡ holder_of found) where
-          by_value : delete_decision header memory row ≡ decided (delete_behind value) (flips_in header memory value row)
+        module _ (value : ℕ) (holder : Ok (Some value) ≡ legible_holder found) where
+          by_value : delete_decision header memory row ≡ decided Err (delete_behind value) (Ok (flips_in header memory value row))
           by_value =
               delete_goes_on
-              ∙ row_passes found read (delete_behind (old_value header memory row)) deletes value holder
-              ∙ ap (λ (v : ℕ). decided (delete_behind v) (flips_in header memory v row)) (sym (is_old found read value holder))
+              ∙ row_passes found read Err (delete_behind (old_value header memory row)) (Ok deletes) value holder
+              ∙ ap (λ (v : ℕ). decided Err (delete_behind v) (Ok (flips_in header memory v row))) (sym (is_old found read value holder))
 
           pub delete_asks : Asks sizes value row
           delete_asks =
@@ -285,7 +286,7 @@ module _ (words : List ℕ) (fences : List Fence) (header : Header) where
       unfolding update_decision
       update_stops refusal stop =
           sym
-          (stop_refused (length words) (length fences) header update-checks (decided_refuses (updates old_value_lem))
+          (stop_refused (length words) (length fences) header update-checks (decided_refuses Err (Ok (updates old_value_lem)))
           (holder_checks (update-behind old_value_lem)) refusal stop)
 
       module _ (sizes : Sizes) (ready : Ok sizes ≡ entered_update (length words) (length fences) header row value) where
@@ -295,25 +296,25 @@ module _ (words : List ℕ) (fences : List Fence) (header : Header) where
         pub update_planned : Planned header sizes (length words) (length fences)
         update_planned = update_enters.planned
 
-        update_goes_on : update_decision header memory row value ≡ decided (holder_checks (update-behind old_value_lem)) (updates old_value_lem)
+        update_goes_on : update_decision header memory row value ≡ decided Err (holder_checks (update-behind old_value_lem)) (Ok (updates old_value_lem))
         unfolding update_decision
         update_goes_on =
-            ready_goes_on (length words) (length fences) header update-checks (decided_refuses (updates old_value_lem))
+            ready_goes_on (length words) (length fences) header update-checks (decided_refuses Err (Ok (updates old_value_lem)))
             (holder_checks (update-behind old_value_lem)) sizes ready
 
         module _ (found : Row) (read : found ≡ held) where
-          pub update_unreadable : {reason : Unreadable} → Err reason ≡ holder_of found → Err Damaged ≡ update_decision header memory row value
-          update_unreadable unreadable = sym (update_goes_on ∙ row_unreadable found read (update-behind old_value_lem) (updates old_value_lem) unreadable)
+          pub update_unreadable : {reason : Unreadable} → Err reason ≡ legible_holder found → Err Damaged ≡ update_decision header memory row value
+          update_unreadable unreadable = sym (update_goes_on ∙ row_unreadable found read Err (update-behind old_value_lem) (Ok (updates old_value_lem)) unreadable)
 
-          pub update_gone : Ok None ≡ holder_of found → Err Gone ≡ update_decision header memory row value
-          update_gone missing = sym (update_goes_on ∙ row-missing found read (update-behind old_value_lem) (updates old_value_lem) missing)
+          pub update_gone : Ok None ≡ legible_holder found → Err Gone ≡ update_decision header memory row value
+          update_gone missing = sym (update_goes_on ∙ row-missing found read Err (update-behind old_value_lem) (Ok (updates old_value_lem)) missing)
 
-          module _ (old : ℕ) (holder : Ok (Some old) ≡ holder_of found) where
-            by_old : update_decision header memory row value ≡ decided (update-behind old) (updates old)
+          module _ (old : ℕ) (holder : Ok (Some old) ≡ legible_holder found) where
+            by_old : update_decision header memory row value ≡ decided Err (update-behind old) (Ok (updates old))
             by_old =
                 update_goes_on
-                ∙ row_passes found read (update-behind old_value_lem) (updates old_value_lem) old holder
-                ∙ ap (λ (v : ℕ). decided (update-behind v) (updates v)) (sym (is_old found read old holder))
+                ∙ row_passes found read Err (update-behind old_value_lem) (Ok (updates old_value_lem)) old holder
+                ∙ ap (λ (v : ℕ). decided Err (update-behind v) (Ok (updates v))) (sym (is_old found read old holder))
 
             pub update_same : eqb old value ≡ true → Ok None ≡ update_decision header memory row value
             update_same same = rw (by_old, same) refl

@@ -7,6 +7,7 @@ use native.Mathlib.Nat.{suc-mul}
 use native.Mathlib.Omega.{arith}
 use lib.ListN.{length}
 use Rattle.blocks.specs.Sizes.{value_room, block_size}
+use Rattle.blocks.specs.Inner.{Limits}
 use Rattle.blocks.specs.Block.{value_length}
 use Rattle.blocks.proofs.SizeLaws.{place-fits}
 use Rattle.load_list.specs.Column.{loaded}
@@ -21,7 +22,7 @@ use Rattle.memory.specs.declared.header.Header.{Header}
 use Rattle.block_read.specs.declared.fence.Fence.{Fence}
 use Rattle.blocks.specs.declared.sizes.Sizes.{Sizes}
 use Rattle.load_column.proofs.Loading.{loads_none, loads_next, loads_block}
-use Rattle.memory.proofs.Places.{one_more, numbers, header-limits, fenced}
+use Rattle.memory.proofs.Places.{one_more, numbers, limits, header-limits, fenced}
 
 module _ {header : Header} {sizes : Sizes} (words : List ℕ) (fences : List Fence) (column : List ℕ)
     (is : Planned header sizes (length words) (length fences)) (few : length column ≤ header.rows) where
@@ -32,8 +33,8 @@ module _ {header : Header} {sizes : Sizes} (words : List ℕ) (fences : List Fen
   abbrev pub loaded_to : ℕ → Memory
   loaded_to value = loaded_in (sizes_of header) column value memory
 
-  pub load_asks : (header.values * block_size sizes ≤ length words) × (header.values ≤ 64) × (length column ≤ sizes.rows)
-  load_asks = (rw is.planned is.words_lent, (numbers is).few_values, rw is.planned few)
+  pub load_asks : Limits sizes × (header.values * block_size sizes ≤ length words) × (header.values ≤ 64) × (length column ≤ sizes.rows)
+  load_asks = (limits is, rw is.planned is.words_lent, (numbers is).few_values, rw is.planned few)
 
   -- ---- the words
 

@@ -21,8 +21,9 @@ pub mark_fence-requires : goal.mark_fence-requires
 mark_fence-requires c =
     let a = c.args in
     let count = c.fences_for-count in
-    fence_asks a.words.now a.fences.now c.requires.0 a.value c.requires.1 a.rows.now c.requires.2
-    count.result count.ensures (fences_counted c.sizes.view_is c.sizes.invariant) c.loop-j.j c.loop-j-test.true c.loop-j.rows c.loop-j.auto.rows
+    let asks = fence_asks a.words.now a.fences.now c.requires.0 a.value c.requires.1 a.rows.now c.requires.2
+    count.result count.ensures (fences_counted c.sizes.view_is c.sizes.invariant) c.loop-j.j c.loop-j-test.true c.loop-j.rows c.loop-j.auto.rows in
+    (asks.1, asks.2, asks.3, asks.4, asks.5)
 
 pub returns-then-not-mark_fence : goal.returns-then-not-mark_fence
 returns-then-not-mark_fence c =

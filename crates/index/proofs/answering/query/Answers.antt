@@ -7,7 +7,8 @@ use Rattle.index.proofs.answering.query.Goals as goal
 pub list_value-requires : goal.list_value-requires
 list_value-requires c =
     let a = c.args in
-    query_asks a.words.now a.fences.now a.header a.value a.out.now c.in_ok-sizes.sizes c.in_ok-sizes.ensures
+    let asks = query_asks a.words.now a.fences.now a.header a.value a.out.now c.in_ok-sizes.sizes c.in_ok-sizes.ensures in
+    (asks.1, asks.2)
 
 pub returns-in_err-sizes : goal.returns-in_err-sizes
 returns-in_err-sizes c =

@@ -26,8 +26,9 @@ pub decide_flip-requires : goal.decide_flip-requires
 decide_flip-requires c =
     let a = c.args in
     let found = c.read_row-found in
-    delete_asks a.words.now a.fences.now a.header a.row c.in_ok-sizes.sizes c.in_ok-sizes.ensures found.result found.ensures
-    c.in-Some.value (rw c.in-Some.is at c.in-Ok.ensures)
+    let asks = delete_asks a.words.now a.fences.now a.header a.row c.in_ok-sizes.sizes c.in_ok-sizes.ensures found.result found.ensures
+    c.in-Some.value (rw c.in-Some.is at c.in-Ok.ensures) in
+    (asks.1, asks.2)
 
 pub returns-in_default-decide_flip : goal.returns-in_default-decide_flip
 returns-in_default-decide_flip c =

@@ -36,8 +36,9 @@ pub decide_flip-requires : goal.decide_flip-requires
 decide_flip-requires c =
     let a = c.args in
     let found = c.read_row-found in
-    old_asks a.words.now a.fences.now a.header a.row a.value c.in_ok-sizes.sizes c.in_ok-sizes.ensures found.result found.ensures
-    c.in-Some.old (rw c.in-Some.is at c.in-Ok.ensures) (ne_eqb c.in-Some.old a.value c.if-old-value.false)
+    let asks = old_asks a.words.now a.fences.now a.header a.row a.value c.in_ok-sizes.sizes c.in_ok-sizes.ensures found.result found.ensures
+    c.in-Some.old (rw c.in-Some.is at c.in-Ok.ensures) (ne_eqb c.in-Some.old a.value c.if-old-value.false) in
+    (asks.1, asks.2)
 
 pub returns-in_default-decide_flip : goal.returns-in_default-decide_flip
 returns-in_default-decide_flip c =
@@ -50,8 +51,9 @@ pub decide_flip-requires-2 : goal.decide_flip-requires-2
 decide_flip-requires-2 c =
     let a = c.args in
     let found = c.read_row-found in
-    new_asks a.words.now a.fences.now a.header a.row a.value c.in_ok-sizes.sizes c.in_ok-sizes.ensures found.result found.ensures
-    c.in-Some.old (rw c.in-Some.is at c.in-Ok.ensures) (ne_eqb c.in-Some.old a.value c.if-old-value.false)
+    let asks = new_asks a.words.now a.fences.now a.header a.row a.value c.in_ok-sizes.sizes c.in_ok-sizes.ensures found.result found.ensures
+    c.in-Some.old (rw c.in-Some.is at c.in-Ok.ensures) (ne_eqb c.in-Some.old a.value c.if-old-value.false) in
+    (asks.1, asks.2)
 
 pub returns-in_default-decide_flip-2 : goal.returns-in_default-decide_flip-2
 returns-in_default-decide_flip-2 c =

@@ -4,7 +4,9 @@ use Rattle.index.proofs.loading.Rounds.{loaded_to, load_asks, words-done, renew_
 use Rattle.index.proofs.loading.load_values.Goals as goal
 
 pub load_blocks-requires : goal.load_blocks-requires
-load_blocks-requires c = load_asks c.args.words.now c.args.fences.now c.args.column.now c.requires.0 c.requires.1
+load_blocks-requires c =
+    let asks = load_asks c.args.words.now c.args.fences.now c.args.column.now c.requires.0 c.requires.1 in
+    (asks.1, asks.2, asks.3)
 
 pub loop-value-init : goal.loop-value-init
 loop-value-init c = refl

@@ -3,7 +3,7 @@ use mathlib.Core.Path.{refl}
 use Rattle.memory.proofs.entry.ask.Goals as goal
 
 pub returns-then-applies : goal.returns-then-applies
-returns-then-applies c = rw (c.in_ok-passed.was, c.if-applies.true) refl
+returns-then-applies g c = rw (c.in_ok-passed.was, c.if-applies.true) refl
 
 pub returns : goal.returns
-returns c = rw (c.in_ok-passed.was, c.if-applies.false) refl
+returns g c = rw (c.in_ok-passed.was, c.if-applies.false) refl

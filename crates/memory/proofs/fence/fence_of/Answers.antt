@@ -5,4 +5,4 @@ use native.Mathlib.Omega.{arith}
 use Rattle.memory.proofs.fence.fence_of.Goals as goal
 
 pub overflow_cast-result : goal.overflow_cast-result
-overflow_cast-result c = let a = c.args in omega (arith, div-le_self (a.row / 31) a.sizes.spacing)
+overflow_cast-result c = let a = c.args in omega (arith, div-le_self (a.row / 31) a.spacing)
