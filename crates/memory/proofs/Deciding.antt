@@ -100,7 +100,7 @@ module _ {A : Type 0} {refused : Refusal → A} {done : A} (back : Header) (memo
   decided_changes (first when false ∷ checks) decision differs e =
       let rest = decided_changes checks decision differs e in (rest.0, rest.1, (refl, rest.2))
 
--- both of a decision that is a Result
+-- THEOREM: both, of a decision that is a Result
 module _ {A : Type 0} (back : Header) (memory : Memory) (after : After) (done : A) (checks : List Check) where
   pub err_changes : (refusal : Refusal) → Err refusal ≡ decided Err checks (Ok done) → change checks back memory after ≡ refused_change back memory refusal
   err_changes = refused_changes {refused = Err} back memory after (λ refusal other e. sym (same_reason e)) (λ refusal. not_ready) checks

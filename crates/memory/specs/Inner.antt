@@ -95,6 +95,6 @@ done_with header count = record { header = header; answer = Ok count }
 unfoldable pub holder_of : Row → Option ℕ
 holder_of row = cond (is_deleted row) None (Some row.value)
 
--- that value, where the row can be read
+-- the same, where the row can be read
 unfoldable pub legible_holder : Row → Result (Option ℕ) Unreadable
 legible_holder row = cond (is_damaged row) (Err (record {})) (Ok (holder_of row))
