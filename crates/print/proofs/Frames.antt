@@ -17,6 +17,19 @@ use Rattle.print.specs.Frame.{column_in, line_length, is_frame}
 -- ---- a line without its final newline
 
 module _ (input : List ℕ) where
+  pub no_bytes : length input ≡ 0 → line_length input ≡ 0
+  no_bytes = go input
+    where
+      go : (input : List ℕ) → length input ≡ 0 → line_length input ≡ 0
+      go [] e = refl
+      go (byte ∷ input) e = absurd (omega arith)
+
+  pub newline_ends : get_or input (length input - 1) 0 ≡ 10 → line_length input ≡ length input - 1
+  newline_ends e = rw (eq-eqb (get_or input (length input - 1) 0) 10 e) refl
+
+  pub no_newline : (get_or input (length input - 1) 0 ≡ 10 → ⊥) → line_length input ≡ length input
+  no_newline e = rw (ne_eqb (get_or input (length input - 1) 0) 10 e) refl
+
   pub line_short : line_length input ≤ length input
   line_short = go (eqb (get_or input (length input - 1) 0) 10)
     where
