@@ -4,7 +4,7 @@ use mathlib.Core.Bool.{true}
 use mathlib.Core.List.{List}
 use Prim.Native.Nat.{ℕ, suc, ◌+◌, ◌*◌, ◌-◌, ◌%◌, ◌^◌, ◌<◌, ◌≤◌}
 use native.Mathlib.Omega.{arith}
-use native.Mathlib.Nat.{pow-succ'}
+use native.Mathlib.Nat.{zero-add, pow-succ'}
 use native.Mathlib.Numerals.{add-one}
 use lib.ListN.{length, get_or, drop, drop_of_length-le}
 use lib.Seq.{drop-cons}
@@ -20,8 +20,11 @@ pub record Gathered (rows : List ℕ) (group i : ℕ) : Type 0 where
   pub small : group < 2 ^ i
   pub whole : group_of 31 rows ≡ group * 2 ^ (31 - i) + group_of (31 - i) (drop i rows)
 
--- the loop takes one row more, and ends with a shift over the missing rows
+-- the loop begins, takes one row more, and ends with a shift over the missing rows
 module _ (rows : List ℕ) where
+  pub gather_none : Gathered rows 0 0
+  gather_none = record { within = omega arith; small = omega arith; whole = sym (zero-add (group_of 31 rows)) }
+
   pub gather_more : (group i : ℕ) → are_bits rows ≡ true → length rows ≤ 31 → i < length rows → Gathered rows group i
       → Gathered rows (group * 2 + get_or rows i 0) (i + 1)
   gather_more group i bits few h k =
