@@ -8,7 +8,7 @@ use crate::numbers::{decimal_in, word_in};
 use std::mem;
 
 // What is left of a line. Fields are separated by spaces alone; any other byte may stand in one.
-#[derive(Drop)]
+#[derive(Clone, Copy)]
 pub struct Fields<'a> {
     line: &'a [u8],
 }

@@ -4,7 +4,7 @@ use memory::header::Header;
 
 // A command. The digits of a pack are one field, the bytes of a load's column and the words of an unpack one each:
 // what they spell is read later.
-#[derive(Drop)]
+#[derive(Clone, Copy)]
 pub enum Order<'a> {
     Load(Load<'a>),
     Change(Change),
@@ -18,7 +18,7 @@ pub enum Order<'a> {
 }
 
 // The numbers of a load, and its column.
-#[derive(Drop)]
+#[derive(Clone, Copy)]
 pub struct Load<'a> {
     pub rows: u32,
     pub values: u32,
