@@ -72,9 +72,11 @@ impl Input {
     // Reads once, after what waits, which moves to the front; answers whether there was anything to read. A line that
     // fills the buffer is passed over.
     fn read_more(&mut self) -> io::Result<bool> {
-        self.bytes.copy_within(self.next..self.end, 0);
-        self.end -= self.next;
-        self.next = 0;
+        if 0 < self.next {
+            self.bytes.copy_within(self.next..self.end, 0);
+            self.end -= self.next;
+            self.next = 0;
+        }
         if self.end == CAPACITY {
             self.end = 0;
             self.skips = true;
