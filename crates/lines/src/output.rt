@@ -1,6 +1,6 @@
 // What goes to the screen. It gathers in a buffer of its own, and is written out where the buffer is full and
 // where it is flushed.
-ghost use Rattle.std.specs.Prelude.{◌≤◌};
+ghost use Rattle.std.specs.Prelude.{◌≡◌, ◌≤◌, OnOk};
 ghost use Rattle.lines.specs.declared.output.TheConstants.{BUFFER};
 
 use std::io::{self, Stdout, Write};
@@ -23,6 +23,23 @@ impl Output {
             len: 0,
         }
     }
+
+    fn write_out(&mut self) -> io::Result<()>
+        ensures { OnOk result (self.new.len ≡ 0) }
+    {
+        self.screen.write_all(&self.bytes[..self.len])?;
+        self.len = 0;
+        Ok(())
+    }
+
+    fn put(&mut self, byte: u8) -> io::Result<()> {
+        if self.len == BUFFER {
+            self.write_out()?;
+        }
+        self.bytes[self.len] = byte;
+        self.len += 1;
+        Ok(())
+    }
 }
 
 impl Write for Output {
@@ -36,9 +53,19 @@ impl Write for Output {
         Ok(count)
     }
 
-    fn flush(&mut self) -> io::Result<()> {
-        self.screen.write_all(&self.bytes[..self.len])?;
-        self.len = 0;
+    fn write_all(&mut self, bytes: &[u8]) -> io::Result<()> {
+        if bytes.len() <= BUFFER - self.len {
+            self.bytes[self.len..self.len + bytes.len()].copy_from_slice(bytes);
+            self.len += bytes.len();
+            return Ok(());
+        }
+        for byte in bytes {
+            self.put(*byte)?;
+        }
         Ok(())
+    }
+
+    fn flush(&mut self) -> io::Result<()> {
+        self.write_out()
     }
 }
