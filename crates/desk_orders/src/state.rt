@@ -8,6 +8,7 @@ use block_read::fence::Fence;
 use fields::line::Fields;
 use fields::numbers::word_in;
 use fields::values::read_into;
+use itoa::Buffer;
 use lines::failure::Failure;
 use lines::orders::Setting;
 use lines::output::Output;
@@ -151,7 +152,10 @@ impl Desk {
             .get(from..from + count as usize)
             .ok_or(Failure::OutOfRange)?;
         say_each(out, fences, fences.len(), |out, fence| {
-            write!(out, " {}:{}", fence.place, fence.first)
+            out.write_all(b" ")?;
+            out.write_all(Buffer::new().format(fence.place).as_bytes())?;
+            out.write_all(b":")?;
+            out.write_all(Buffer::new().format(fence.first).as_bytes())
         })?;
         Ok(())
     }

@@ -2,6 +2,7 @@
 use crate::failure::Failure;
 use crate::output::Output;
 use digits::writing::put_digits;
+use itoa::Buffer;
 use memory::row::{State, Value};
 use std::io::{self, Write};
 
@@ -33,8 +34,11 @@ pub fn say_words(out: &mut Output, words: &[u32], count: usize) -> io::Result<()
 // The first `count` rows of a dump, as `0 b b - ..`.
 pub fn say_rows(out: &mut Output, rows: &[u8], count: usize) -> io::Result<()> {
     say_each(out, rows, count, |out, row| match row {
-        255 => write!(out, " -"),
-        value => write!(out, " {value}"),
+        255 => out.write_all(b" -"),
+        value => {
+            out.write_all(b" ")?;
+            out.write_all(Buffer::new().format(value).as_bytes())
+        }
     })
 }
 
