@@ -1,5 +1,5 @@
 // Unpack: a canonical list to its rows, one word after the other.
-ghost use Rattle.std.specs.Prelude.{◌≡◌, min, ◌+◌, ◌*◌, ◌≤◌, [], ◌∷◌, length, take};
+ghost use Rattle.std.specs.Prelude.{◌≡◌, min, ◌+◌, ◌*◌, ◌≤◌, [], ◌∷◌, length, take, replicate};
 ghost use Rattle.answers.specs.Outcome.{Gives};
 ghost use Rattle.groups.specs.Rows.{row_limit, rows_of};
 ghost use Rattle.words.specs.Words.{run_of, span, decode};
@@ -9,6 +9,16 @@ use answers::{Answer, Refusal};
 use groups::rows::{ROW_LIMIT, put_rows};
 use list_check::check::check;
 use words::word::{fill_bit, is_fill, span_of};
+
+// Writes one row's value to all of `out`. A loop: std's `fill` sets its last element apart, which counts where fills are
+// short.
+fn put_fill(out: &mut [u8], bit: u8)
+    ensures { out.new ≡ replicate (length out.old) bit }
+{
+    for row in out.iter_mut() {
+        *row = bit;
+    }
+}
 
 // Where the rows of a word end that begin at row `at`, of `length` rows in all.
 fn end_of(word: u32, at: usize, length: usize) -> usize
@@ -24,7 +34,7 @@ fn put_word(out: &mut [u8], word: u32)
     ensures { out.new ≡ take (length out.old) (rows_of (decode (word ∷ []))) }
 {
     if is_fill(word) {
-        out.fill(fill_bit(word) as u8);
+        put_fill(out, fill_bit(word) as u8);
     } else {
         put_rows(out, word);
     }

@@ -1,9 +1,11 @@
--- The rows of one word, as many as are wanted. Assumes nothing.
+-- The rows of one word, as many as are wanted, and the rows of a fill written one after the other. Assumes nothing.
 use mathlib.Core.Path.{◌≡◌, refl, ap, sym}
-use mathlib.Core.List.{[], ◌∷◌, append-nil}
-use Prim.Native.Nat.{ℕ, zero, suc, ◌*◌, ◌/◌, ◌%◌, ◌<◌, ◌≤◌}
+use mathlib.Core.List.{List, [], ◌∷◌, append-nil}
+use Prim.Native.Nat.{ℕ, zero, suc, ◌+◌, ◌*◌, ◌/◌, ◌%◌, ◌<◌, ◌≤◌}
 use native.Mathlib.Omega.{arith}
-use lib.ListN.{take, replicate}
+use native.Mathlib.Numerals.{add-one}
+use lib.ListN.{length, take, set, replicate, replicate-append-replicate}
+use lib.Seq.{take-suc-set}
 use Rattle.groups.specs.Rows.{bits_of, rows_of}
 use Rattle.words.specs.Words.{run_of, span, decode}
 use Rattle.words.proofs.Uniform.{rows_of-uniform}
@@ -25,3 +27,7 @@ fill_rows n word high room =
     let count = word % 0x40000000 in
     rw (reads_fill word high, append-nil, rows_of-uniform bit count (omega arith))
     (sym (take-replicate n (31 * count) bit (rw (reads_fill word high) at room)))
+
+-- one row more of a fill is written
+pub one_more : (out : List ℕ) (i bit : ℕ) → i < length out → take i out ≡ replicate i bit → take (i + 1) (set out i bit) ≡ replicate (i + 1) bit
+one_more out i bit h e = rw (← replicate-append-replicate i 1 bit, add-one, take-suc-set out i bit h, e) refl

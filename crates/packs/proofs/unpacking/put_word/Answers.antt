@@ -17,7 +17,7 @@ returns-then-is_fill c =
     let room = c.requires in
     let test = c.is_fill in
     let high = told_fill a.word test.ensures c.if-is_fill.true in
-    c.fill.ensures.after (λ y e. e) ∙ rw c.fill_bit.ensures (fill_rows (length a.out.now) a.word high room)
+    c.put_fill.ensures ∙ rw c.fill_bit.ensures (fill_rows (length a.out.now) a.word high room)
 
 pub returns-else-is_fill : goal.returns-else-is_fill
 returns-else-is_fill c =
