@@ -121,6 +121,7 @@ fn put_short(out: &mut [u8], group: u32)
     requires { length out.old ≤ 31 }
     ensures { out.new ≡ take (length out.old) (bits_of 31 group) }
 {
+    // One copy: a `const` table that is indexed in a loop is copied at every turn.
     let masks = MASKS;
     for (i, row) in out.iter_mut().enumerate() {
         *row = under(group, masks[i]);

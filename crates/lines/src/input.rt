@@ -69,8 +69,8 @@ impl Input {
         Ok(None)
     }
 
-    // Reads once, after what waits, which moves to the front; answers whether there was anything to read. A line that
-    // fills the buffer is passed over.
+    // Reads once, after what waits, which moves to the front if it is not there yet (a long line comes in many reads);
+    // answers whether there was anything to read. A line that fills the buffer is passed over.
     fn read_more(&mut self) -> io::Result<bool> {
         if 0 < self.next {
             self.bytes.copy_within(self.next..self.end, 0);

@@ -24,6 +24,7 @@ impl Output {
         }
     }
 
+    // Writes out what has gathered.
     fn write_out(&mut self) -> io::Result<()>
         ensures { OnOk result (self.new.len ≡ 0) }
     {
@@ -32,6 +33,7 @@ impl Output {
         Ok(())
     }
 
+    // One byte more.
     fn put(&mut self, byte: u8) -> io::Result<()> {
         if self.len == BUFFER {
             self.write_out()?;
@@ -53,6 +55,7 @@ impl Write for Output {
         Ok(count)
     }
 
+    // What fits goes in at once: by the trait's own, digit by digit, an unpack takes three times as long.
     fn write_all(&mut self, bytes: &[u8]) -> io::Result<()> {
         if bytes.len() <= BUFFER - self.len {
             self.bytes[self.len..self.len + bytes.len()].copy_from_slice(bytes);

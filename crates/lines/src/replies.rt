@@ -31,7 +31,7 @@ pub fn say_words(out: &mut Output, words: &[u32], count: usize) -> io::Result<()
     })
 }
 
-// The first `count` rows of a dump, as `0 b b - ..`.
+// The first `count` rows of a dump, as `0 b b - ..`: by `itoa`, since `write!` takes twice as long.
 pub fn say_rows(out: &mut Output, rows: &[u8], count: usize) -> io::Result<()> {
     say_each(out, rows, count, |out, row| match row {
         255 => out.write_all(b" -"),
